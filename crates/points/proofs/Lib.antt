@@ -1,0 +1,2 @@
+-- The proof of the points.
+pub mod Points

@@ -1,0 +1,3 @@
+-- Laws of doubles, for the crates above.
+pub mod Order
+pub mod Nan

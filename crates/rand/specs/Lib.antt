@@ -1,0 +1,4 @@
+-- The definitions that the contracts cite.
+pub mod SplitMix64
+pub mod Generator
+pub mod Draws
