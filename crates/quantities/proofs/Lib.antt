@@ -1,3 +1,6 @@
 -- Laws of doubles, for the crates above.
-pub mod Order
 pub mod Nan
+pub mod Order
+pub mod Ranges
+pub mod Uniform
+pub mod Values

@@ -1,5 +1,6 @@
 ghost use mathlib.Core.Path.{_≡_};
 ghost use lib.Ieee.{binary64, ofBits, toBits};
+ghost use Rattle.quantities.specs.Doubles.{inRange};
 
 // The double that 64 bits stand for. Every pattern of a NaN gives the one NaN.
 pub fn from_bits(bits: u64) -> f64
@@ -21,4 +22,11 @@ pub fn to_bits(x: f64) -> u64
     } else {
         f64::to_bits(x)
     }
+}
+
+// Whether x is in lo..hi. Both ends are included; NaN is in none.
+pub fn in_range(lo: f64, hi: f64, x: f64) -> bool
+    ensures { λ r. ⌜ r ≡ inRange lo hi x ⌝ }
+{
+    lo <= x && x <= hi
 }
