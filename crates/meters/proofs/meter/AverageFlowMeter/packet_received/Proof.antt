@@ -1,0 +1,114 @@
+-- Each return rewrites by the tests that led there. Assumes nothing.
+use borrow.Author.Tests.{le-leb, le-ltb, lt-leb, lt-ltb, not-false, not-true}
+use Rattle.meters.specs.Meter.{recordedOf}
+use lib.Ieee.{ofBits}
+use borrow.Author.Needs.{needs}
+use mathlib.Core.Path.{sym, _∙_}
+use native.Mathlib.Omega.{arith}
+use Rattle.meters.proofs.Fit.{ready-meter}
+use Rattle.meters.proofs.meter.AverageFlowMeter.packet_received.Statement.{statement}
+use Rattle.meters.proofs.meter.AverageFlowMeter.packet_received.Tie as tie
+
+ready-requires : tie.Need-ready-requires
+ready-requires c κs = search needs
+
+returns : tie.Need-returns
+unfolding recordedOf ofBits
+returns c =
+    rw (
+      ← c .before .ready .ensures,
+      not-true (c .before .ready .result) (c .if1 .taken),
+    )
+
+in-range-requires : tie.Need-in-range-requires
+in-range-requires c κs = search needs
+
+returns-2 : tie.Need-returns-2
+unfolding recordedOf ofBits
+returns-2 c =
+    rw (
+      ← c .before .before .before .ready .ensures,
+      not-false (c .before .before .before .ready .result) (c .before .before .if1 .left),
+      ← c .before .in-range .ensures,
+      not-true (c .before .in-range .result) (c .if2 .taken),
+    )
+
+returns-3 : tie.Need-returns-3
+unfolding recordedOf ofBits
+returns-3 c =
+    rw (
+      ← c .before .before .before .before .before .ready .ensures,
+      not-false (c .before .before .before .before .before .ready .result) (c .before .before .before .before .if1 .left),
+      ← c .before .before .before .in-range .ensures,
+      not-false (c .before .before .before .in-range .result) (c .before .before .if2 .left),
+      lt-leb _ _ (c .if3 .taken),
+    )
+
+returns-4 : tie.Need-returns-4
+unfolding recordedOf ofBits
+returns-4 c =
+    rw (
+      ← c .before .before .before .before .before .before .before .ready .ensures,
+      not-false (c .before .before .before .before .before .before .before .ready .result) (c .before .before .before .before .before .before .if1 .left),
+      ← c .before .before .before .before .before .in-range .ensures,
+      not-false (c .before .before .before .before .before .in-range .result) (c .before .before .before .before .if2 .left),
+      le-leb _ _ (c .before .before .if3 .left),
+      lt-leb _ _ (c .if4 .taken),
+    )
+
+returns-5 : tie.Need-returns-5
+unfolding recordedOf ofBits
+returns-5 c =
+    rw (
+      ← c .before .before .before .before .before .before .before .before .ready .ensures,
+      not-false (c .before .before .before .before .before .before .before .before .ready .result) (c .before .before .before .before .before .before .before .if1 .left),
+      ← c .before .before .before .before .before .before .in-range .ensures,
+      not-false (c .before .before .before .before .before .before .in-range .result) (c .before .before .before .before .before .if2 .left),
+      le-leb _ _ (c .before .before .before .if3 .left),
+      le-leb _ _ (c .before .if4 .left),
+      le-ltb _ _ (c .if5 .taken),
+    )
+
+add-requires : tie.Need-add-requires
+add-requires c κs =
+    let R = c .before .before .before .before .before .before .before .before .before .ready in
+    let passed = sym (R .ensures) ∙ not-false (R .result) (c .before .before .before .before .before .before .before .before .if1 .left) in
+    let held = ready-meter _ _ passed .fit in
+    omega (arith, held .few, held .bounded)
+
+add-records : tie.Need-add-records
+add-records c = search needs
+
+summed-requires : tie.Need-summed-requires
+summed-requires c κs = search needs
+
+returns-6 : tie.Need-returns-6
+unfolding recordedOf ofBits
+returns-6 c =
+    rw (
+      c .summed .ensures,
+      c .before .add .ensures,
+      ← c .before .before .before .before .before .before .before .before .before .before .before .ready .ensures,
+      not-false (c .before .before .before .before .before .before .before .before .before .before .before .ready .result) (c .before .before .before .before .before .before .before .before .before .before .if1 .left),
+      ← c .before .before .before .before .before .before .before .before .before .in-range .ensures,
+      not-false (c .before .before .before .before .before .before .before .before .before .in-range .result) (c .before .before .before .before .before .before .before .before .if2 .left),
+      le-leb _ _ (c .before .before .before .before .before .before .if3 .left),
+      le-leb _ _ (c .before .before .before .before .if4 .left),
+      lt-ltb _ _ (c .before .before .before .if5 .left),
+    )
+
+pub packet-received-spec : {M : Type 1} → statement M
+packet-received-spec =
+    tie.close
+    (tie.spec
+    ready-requires
+    returns
+    in-range-requires
+    returns-2
+    returns-3
+    returns-4
+    returns-5
+    add-requires
+    add-records
+    summed-requires
+    returns-6)

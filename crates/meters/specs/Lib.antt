@@ -1,0 +1,4 @@
+-- The definitions that the contracts cite.
+pub mod Sums
+pub mod Meter
+pub mod Average

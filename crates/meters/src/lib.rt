@@ -1,0 +1,13 @@
+// The meters (document 01, "Meter"), after FlowForge's src/util/meters.rs, src/util/average.rs and
+// src/flow.rs: the average flow meter, and the mean of flow records.
+pub mod average;
+pub mod flow;
+pub mod meter;
+
+pub use average::FlowSum;
+pub use average::Mean;
+pub use flow::FlowProperties;
+pub use flow::Rtt;
+pub use meter::AverageFlowMeter;
+pub use meter::FlowRead;
+pub use meter::Metered;
