@@ -1,2 +1,3 @@
 -- The proof of the points.
 pub mod Points
+pub mod Worked

@@ -1,14 +1,38 @@
 -- The points hold: each is computed. Assumes nothing.
 use mathlib.Core.Path.{_≡_, refl, sym, ap, _∙_}
 use mathlib.Core.Bool.{true, false}
+use mathlib.Core.List.{[], _∷_}
+use Prim.Native.Nat.{ℕ, _+_, _/_, _≤_}
+use borrow.Author.Tests.{lt-leb}
+use lib.Dec.{not-T}
+use lib.Ieee.Bits.{is-true, is-false}
 use native.Mathlib.Omega.{arith}
-use lib.Ieee.{round, units, odd, size, span, climb, add, mul, sub, sum, div, lt, le, eq, ofInt, neg}
-use Rattle.quantities.specs.Doubles.{zeroF}
+use lib.Ieee.{Float, round, units, odd, size, span, climb, add, mul, sub, sum, div, lt, le, eq, ofInt, neg}
+use Rattle.quantities.specs.declared.time.Time.{Time}
+use Rattle.quantities.specs.declared.time.OptionTime.the-variants.{Some}
+use Rattle.quantities.specs.Doubles.{zeroF, power}
+use Rattle.quantities.specs.Units.{amountOf}
+use Rattle.quantities.proofs.Order.{lt-irrefl}
+use Rattle.quantities.proofs.Uniform.{sample-fine}
+use Rattle.rand.specs.declared.generator.Rng.{Rng}
 use Rattle.rand.specs.Generator.{fromWords, outputOf, movedOn}
 use Rattle.rand.specs.Draws.{sampleOf, unitOf, uniformOf, drawOf, redraw}
 use Rattle.rand.proofs.Redraw.{again}
 use Rattle.meters.specs.Meter.{newMeter, startFit, meterFit, ready, switchedOf, enabledTime, readOf}
-use Rattle.points.specs.Points.{Hold, points, outputs, halfway, smallest, one}
+use Rattle.components.specs.declared.packet.Packet.{Packet}
+use Rattle.components.specs.declared.packet.Transit.{Transit}
+use Rattle.components.specs.declared.link.Limit.the-variants as Limit
+use Rattle.components.specs.declared.link.Line.{Line}
+use Rattle.components.specs.declared.link.Left.the-variants as Left
+use Rattle.components.specs.declared.lossy.Policy.{Policy}
+use Rattle.components.specs.declared.lossy.Enabled.{Enabled}
+use Rattle.components.specs.declared.lossy.SenderState.the-variants as State
+use Rattle.components.specs.declared.lossy.LossySender.{LossySender}
+use Rattle.components.specs.declared.lossy.Heard.the-variants.{Counted}
+use Rattle.components.specs.Link.{admits, isDue, tryDeliver}
+use Rattle.components.specs.Sender.{returnedOf}
+use Rattle.components.specs.Queue.{sooner, pickOf}
+use Rattle.points.specs.Points.{Hold, points, outputs, halfway, smallest, one, atOne, first, silent}
 
 drawn-zero : drawOf smallest halfway .value ≡ zeroF
 unfolding halfway fromWords outputOf sampleOf unitOf uniformOf drawOf div mul add sub neg sum ofInt round units odd size span climb
@@ -30,6 +54,90 @@ never-active : readOf (switchedOf newMeter true one .meter) one .number ≡ 16
 unfolding readOf enabledTime switchedOf ready meterFit startFit mul add sub neg sum ofInt round units odd size span climb le eq
 never-active = refl
 
+-- ---- the components
+
+kept : tryDeliver silent one first zeroF .left ≡ Left.Out (first .packet)
+unfolding tryDeliver isDue unitOf sampleOf outputOf fromWords div ofInt round units odd size span climb lt eq
+kept = refl
+
+-- an output is below 2 ^ 64, so a sample is below 1
+below-one : (g : Rng) → lt (unitOf g .value) (power 0) ≡ true
+unfolding unitOf sampleOf outputOf
+below-one g = is-true (lt (unitOf g .value) (power 0)) (sample-fine (outputOf g / 4096) (omega arith) .2)
+
+lost : (l : Line) (clock : Time) (front : Transit) → isDue l clock front ≡ true → tryDeliver l clock front (power 0) .left ≡ Left.Lost (front .packet)
+unfolding tryDeliver
+lost l clock front due = rw (due, below-one (l .rng))
+
+admitted : admits (Limit.Bits 8) (amountOf 0) (amountOf 8) ≡ true
+unfolding admits
+admitted = refl
+
+full : admits (Limit.Bits 8) (amountOf 8) (amountOf 8) ≡ false
+unfolding admits
+full = refl
+
+none-admitted : (waiting bits : ℕ) → 1 ≤ bits → admits (Limit.Bits 0) (amountOf waiting) (amountOf bits) ≡ false
+unfolding admits
+none-admitted waiting bits h = lt-leb (waiting + bits) 0 (omega arith)
+
+lowest : pickOf (atOne ∷ atOne ∷ []) ≡ record { time = Some one; part = 0 }
+unfolding pickOf sooner lt
+lowest = refl
+
+not-before-itself : (x : Float) → lt x x ≡ false
+not-before-itself x = is-false (lt x x) (not-T (lt x x) (lt-irrefl x))
+
+counted : (policy : Policy) (s : LossySender) (e : Enabled) (p : Packet) → s .state ≡ State.Enabled e → p .«sent_time» ≡ e .started
+    → returnedOf policy s p .heard ≡ Counted
+unfolding returnedOf
+counted policy s e p on at = rw (on, at, not-before-itself (e .started .0 .0))
+
 pub points-hold : Hold points
 unfolding outputs halfway fromWords outputOf movedOn sampleOf div ofInt round units odd size span climb
-points-hold = (refl, (refl, (refl, (switched-on, (never-active, (refl, (drawn-zero, (redrawn, tt))))))))
+points-hold = (
+  refl,
+  (
+    refl,
+    (
+      refl,
+      (
+        kept,
+        (
+          lost,
+          (
+            admitted,
+            (
+              full,
+              (
+                none-admitted,
+                (
+                  lowest,
+                  (
+                    counted,
+                    (
+                      switched-on,
+                      (
+                        never-active,
+                        (
+                          refl,
+                          (
+                            drawn-zero,
+                            (
+                              redrawn,
+                              tt,
+                            ),
+                          ),
+                        ),
+                      ),
+                    ),
+                  ),
+                ),
+              ),
+            ),
+          ),
+        ),
+      ),
+    ),
+  ),
+)

@@ -2,18 +2,33 @@
 use mathlib.Core.Path.{_≡_}
 use mathlib.Core.Bool.{true, false}
 use mathlib.Core.List.{List, [], _∷_}
-use Prim.Native.Nat.{ℕ, zero, suc, _^_}
+use Prim.Native.Nat.{ℕ, zero, suc, _^_, _≤_}
 use lib.IntN.{negsuc}
 use lib.Ieee.{fin}
 use Rattle.quantities.specs.declared.time.Time.{Time}
+use Rattle.quantities.specs.declared.time.OptionTime.the-variants.{Some}
 use Rattle.quantities.specs.Doubles.{zeroF, power}
-use Rattle.quantities.specs.Units.{timeOf}
+use Rattle.quantities.specs.Units.{timeOf, amountOf}
 use Rattle.rand.specs.declared.generator.Rng.{Rng}
 use Rattle.rand.specs.declared.distribution.ContinuousDistribution.{ContinuousDistribution}
 use Rattle.rand.specs.declared.distribution.ContinuousDistribution.the-variants.{Uniform}
 use Rattle.rand.specs.Generator.{fromWords, outputOf, movedOn}
 use Rattle.rand.specs.Draws.{sampleOf, drawOf, redraw}
 use Rattle.meters.specs.Meter.{newMeter, switchedOf, readOf}
+use Rattle.components.specs.declared.packet.Packet.{Packet}
+use Rattle.components.specs.declared.packet.Transit.{Transit}
+use Rattle.components.specs.declared.link.Limit.the-variants as Limit
+use Rattle.components.specs.declared.link.Line.{Line}
+use Rattle.components.specs.declared.link.Left.the-variants as Left
+use Rattle.components.specs.declared.lossy.Policy.{Policy}
+use Rattle.components.specs.declared.lossy.Enabled.{Enabled}
+use Rattle.components.specs.declared.lossy.SenderState.the-variants as State
+use Rattle.components.specs.declared.lossy.LossySender.{LossySender}
+use Rattle.components.specs.declared.lossy.Heard.the-variants.{Counted}
+use Rattle.components.specs.declared.tick_queue.Queued.{Queued}
+use Rattle.components.specs.Link.{admits, isDue, tryDeliver}
+use Rattle.components.specs.Sender.{returnedOf}
+use Rattle.components.specs.Queue.{pickOf}
 
 -- every claim of a list holds
 abbrev pub Hold : List (Type 0) → Type 0
@@ -37,6 +52,24 @@ smallest = Uniform zeroF (fin false 1 (negsuc 1073))
 abbrev pub one : Time
 one = timeOf (power 0)
 
+-- a place of the queue at 1
+abbrev pub atOne : Queued
+atOne = record { time = Some one }
+
+-- a packet on the line that is due at 1, and a line that holds it alone, whose next sample is 0
+abbrev pub first : Transit
+first = record { packet = record { sender = 0; seq = 1; «sent_time» = timeOf zeroF }; due = one }
+
+abbrev pub silent : Line
+silent =
+    record {
+      «earliest_transmit» = one;
+      «buffer_contains» = amountOf 0;
+      waiting = record { start = 0; count = 0 };
+      «on_line» = record { start = 0; count = 1 };
+      rng = fromWords 0 0 0 0;
+    }
+
 abbrev pub points : List (Type 0)
 points =
     -- Words 1,2,3,4 give 41943041, then 58720359.
@@ -45,6 +78,20 @@ points =
     ∷ (sampleOf 4095 ≡ zeroF)
     -- 41943041 samples 10240/2^52, which is 5 * 2^-41.
     ∷ (sampleOf 41943041 ≡ fin false 5 (negsuc 40))
+    -- Loss 0, sample 0: kept.
+    ∷ (tryDeliver silent one first zeroF .left ≡ Left.Out (first .packet))
+    -- Loss 1: always lost, whatever the generator gives.
+    ∷ ((l : Line) (clock : Time) (front : Transit) → isDue l clock front ≡ true → tryDeliver l clock front (power 0) .left ≡ Left.Lost (front .packet))
+    -- Limit 8: empty admits 8 bits,
+    ∷ (admits (Limit.Bits 8) (amountOf 0) (amountOf 8) ≡ true)
+    -- 8 waiting drops.
+    ∷ (admits (Limit.Bits 8) (amountOf 8) (amountOf 8) ≡ false)
+    -- Limit 0 drops all: every packet has a bit.
+    ∷ ((waiting bits : ℕ) → 1 ≤ bits → admits (Limit.Bits 0) (amountOf waiting) (amountOf bits) ≡ false)
+    -- Parts 0 and 1 both at 1: part 0.
+    ∷ (pickOf (atOne ∷ atOne ∷ []) ≡ record { time = Some one; part = 0 })
+    -- Sent exactly at started: counted.
+    ∷ ((policy : Policy) (s : LossySender) (e : Enabled) (p : Packet) → s .state ≡ State.Enabled e → p .«sent_time» ≡ e .started → returnedOf policy s p .heard ≡ Counted)
     -- Switched on at 1, read at 1: 16.
     ∷ (switchedOf newMeter true one .number ≡ 0)
     ∷ (readOf (switchedOf newMeter true one .meter) one .number ≡ 16)

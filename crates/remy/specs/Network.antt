@@ -1,0 +1,75 @@
+-- Document 01, "Stops", rows 1 to 7: the ranges of a network. Definitions only. Ranges include both ends; NaN is in none; of several the lowest.
+use Prim.Native.Nat.{ℕ}
+use mathlib.Core.Bool.{Bool, true, false, _&&_, cond}
+use lib.Dec.{leb}
+use lib.IntN.{negsuc}
+use lib.Ieee.{Float, fin, lt, le}
+use Rattle.quantities.specs.Doubles.{zeroF, power, inRange}
+use Rattle.rand.specs.declared.distribution.ContinuousDistribution.{ContinuousDistribution}
+use Rattle.rand.specs.declared.distribution.ContinuousDistribution.the-variants.{Always, Uniform}
+use Rattle.components.specs.declared.link.Limit.{Limit}
+use Rattle.components.specs.declared.link.Limit.the-variants as Limit
+use Rattle.components.specs.declared.lossy.Policy.{Policy}
+use Rattle.components.specs.declared.lossy.Policy.the-variants.{Held, Grown, Timed}
+use Rattle.remy.specs.declared.network.RemyNetwork.{RemyNetwork}
+
+-- a whole number in lo..hi
+abbrev pub between : ℕ → ℕ → ℕ → Bool
+between lo hi n = leb lo n && leb n hi
+
+-- 1: delay not in 0..2^20 s
+abbrev pub delayFit : Float → Bool
+delayFit delay = inRange zeroF (power 20) delay
+
+-- 2: rate not in 1..2^50 bit/s
+abbrev pub rateFit : Float → Bool
+rateFit rate = inRange (power 0) (power 50) rate
+
+-- 3: loss not in 0..1
+abbrev pub lossFit : Float → Bool
+lossFit loss = inRange zeroF (power 0) loss
+
+-- 4: limit present and above 2^50 bits
+abbrev pub limitFit : Limit → Bool
+limitFit Limit.None = true
+limitFit (Limit.Bits most) = leb most 1125899906842624
+
+-- 5: packet bits not in 1..2^24, or over 16 senders
+abbrev pub sizesFit : ℕ → ℕ → Bool
+sizesFit bits senders = between 1 16777216 bits && leb senders 16
+
+-- 6: on or off: always v not in 0 < v ≤ 2^20; uniform not 0 ≤ min < max ≤ 2^20
+abbrev pub timesFit : ContinuousDistribution → Bool
+timesFit (Always v) = lt zeroF v && le v (power 20)
+timesFit (Uniform min max) = le zeroF min && lt min max && le max (power 20)
+
+-- a window in 1..64
+abbrev pub windowFit : ℕ → Bool
+windowFit w = between 1 64 w
+
+-- a gap in 2^-20..2^20 s
+abbrev pub gapFit : Float → Bool
+gapFit gap = inRange (fin false 1 (negsuc 19)) (power 20) gap
+
+-- 7: policy: a window not in 1..64, first above most, gap not in 2^-20..2^20 s
+abbrev pub policyFit : Policy → Bool
+policyFit (Held w) = windowFit w
+policyFit (Grown first most) = windowFit first && windowFit most && leb first most
+policyFit (Timed most gap) = windowFit most && gapFit gap
+
+-- the number of the lowest cause, or 0
+unfoldable pub networkStop : RemyNetwork → ℕ
+networkStop n =
+    cond (delayFit (n .delay))
+    (cond (rateFit (n .rate))
+    (cond (lossFit (n .loss))
+    (cond (limitFit (n .limit))
+    (cond (sizesFit (n .bits) (n .senders))
+    (cond (timesFit (n .on) && timesFit (n .off))
+    (cond (policyFit (n .policy)) 0 7)
+    6)
+    5)
+    4)
+    3)
+    2)
+    1
