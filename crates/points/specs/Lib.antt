@@ -1,3 +1,5 @@
--- The points of document 01, "Points on the grid", that are marked to be proved, and its worked example.
+-- Points of document 01, each file a list of claims: "Points on the grid" that are marked to be proved, the ends of the ranges, the worked example, unfit states.
 pub mod Points
+pub mod Ranges
 pub mod Worked
+pub mod Unfit

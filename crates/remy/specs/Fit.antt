@@ -23,7 +23,7 @@ use Rattle.remy.specs.declared.simulation.Next.{Next}
 use Rattle.remy.specs.declared.simulation.Next.the-variants as Next
 use Rattle.remy.specs.declared.simulation.Simulation.{Simulation}
 use Rattle.remy.specs.Network.{between, windowFit, networkStop}
-use Rattle.remy.specs.State.{senderAt, togglerAt, meterAt, queuedAt, waitingItems, onLineItems, onLinePackets, packetBits}
+use Rattle.remy.specs.State.{senderAt, togglerAt, meterAt, queuedAt, waitingItems, onLineItems, onLinePackets, packetBits, totalBits}
 use Rattle.remy.specs.Queue.{nextTimeOf}
 
 -- ---- tests of every member, and of every number below n
@@ -61,12 +61,8 @@ unfoldable pub packetsFit : Simulation → Bool
 packetsFit s = every (packetFit s) (waitingItems s) && every (packetFit s) (onLinePackets s)
 
 -- waiting bits other than the waiting packets' bits
-abbrev pub bitsOf : Simulation → List Packet → ℕ
-bitsOf s [] = 0
-bitsOf s (p ∷ ps) = packetBits (s .network) p .0 + bitsOf s ps
-
 unfoldable pub bitsFit : Simulation → Bool
-bitsFit s = eqb (s .line .«buffer_contains» .0) (bitsOf s (waitingItems s))
+bitsFit s = eqb (s .line .«buffer_contains» .0) (totalBits (λ p. packetBits (s .network) p .0) (waitingItems s))
 
 -- a clock below 0
 unfoldable pub clockFit : Simulation → Bool

@@ -6,3 +6,5 @@ pub mod Build
 pub mod Fit
 pub mod Tick
 pub mod Run
+pub mod History
+pub mod Account

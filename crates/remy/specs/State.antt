@@ -98,9 +98,17 @@ onLineItems s = items noTransit (s .«on_line») (s .line .«on_line»)
 abbrev pub onLinePackets : Simulation → List Packet
 onLinePackets s = map (λ x. x .packet) (onLineItems s)
 
--- All packets have the network's packet bits.
+-- All packets have the network's packet bits: those of sender i, and those of a packet.
+abbrev pub senderBits : RemyNetwork → ℕ → Information
+senderBits n i = amountOf (n .bits)
+
 abbrev pub packetBits : RemyNetwork → Packet → Information
-packetBits n p = amountOf (n .bits)
+packetBits n p = senderBits n (p .sender)
+
+-- the sum of packets' bits
+abbrev pub totalBits : (Packet → ℕ) → List Packet → ℕ
+totalBits bits [] = 0
+totalBits bits (p ∷ ps) = bits p + totalBits bits ps
 
 -- ---- one setter for each field that changes
 

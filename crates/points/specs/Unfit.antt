@@ -1,0 +1,513 @@
+-- Document 01, the paragraph "Unfit" below "Stops": for each clause, and for each test inside it, states that it refuses and no other does, as one list of claims.
+-- Each state is one of the worked example's, or the empty simulation, with a field changed; beside it stand the nearest states that are fit.
+use mathlib.Core.Path.{_≡_}
+use mathlib.Core.Bool.{Bool, true, false, _&&_, _||_, cond}
+use mathlib.Core.List.{List, [], _∷_}
+use Prim.Native.Nat.{ℕ, _*_}
+use lib.IntN.{pos, negsuc}
+use lib.ListN.{set, replicate}
+use lib.Dec.{leb, ltb}
+use lib.Ieee.{Float, nan, inf, fin, eq}
+use Rattle.quantities.specs.declared.time.OptionTime.{OptionTime}
+use Rattle.quantities.specs.declared.time.OptionTime.the-variants.{None, Some}
+use Rattle.quantities.specs.Doubles.{zeroF, power, largest}
+use Rattle.quantities.specs.Units.{spanOf, timeOf, amountOf}
+use Rattle.rand.specs.declared.distribution.ContinuousDistribution.the-variants.{Always}
+use Rattle.rand.specs.Generator.{fromWords}
+use Rattle.meters.specs.Meter.{newMeter}
+use Rattle.components.specs.declared.packet.Packet.{Packet}
+use Rattle.components.specs.declared.packet.Transit.{Transit}
+use Rattle.components.specs.declared.link.Limit.the-variants as Limit
+use Rattle.components.specs.declared.lossy.Policy.the-variants.{Held, Timed}
+use Rattle.components.specs.declared.lossy.Enabled.{Enabled}
+use Rattle.components.specs.declared.lossy.SenderState.{SenderState}
+use Rattle.components.specs.declared.lossy.SenderState.the-variants as State
+use Rattle.components.specs.Ring.{places}
+use Rattle.components.specs.Queue.{queuePlaces, noQueued}
+use Rattle.remy.specs.declared.network.RemyNetwork.{RemyNetwork}
+use Rattle.remy.specs.declared.simulation.Next.{Next}
+use Rattle.remy.specs.declared.simulation.Next.the-variants as Next
+use Rattle.remy.specs.declared.simulation.Simulation.{Simulation}
+use Rattle.remy.specs.State.{noToggler, noMeter, senderAt, togglerAt, meterAt, queuedAt, waitingItems, onLineItems, onLinePackets, withHead, withLine, withWaiting, withOnLine, withSender, withToggler, withMeter, withQueued}
+use Rattle.remy.specs.Queue.{nextTimeOf}
+use Rattle.remy.specs.Build.{newLine, newSender, zeroWords, blankPacket, blankTransit, blankToggler, emptySimulation}
+use Rattle.remy.specs.Fit.{every, upTo, eachSender, networkFit, packetFit, bitsFit, clockFit, held, heldIfAny, isIdle, heldSender, heldQueued, isNext, sinceStart, startedFit, meterStartFit, totalsFit, sumsFit, recordsFit, dueFit, countsFit, windowsFit, timersFit, togglersAgree, metersAgree, meterBitsFit, sameTime, nextFit, fit}
+use Rattle.points.specs.Ranges.{double, minusZero, belowZero, tiny, good, withDelay, withRate, withLoss, withLimit, withBits, withSenders, withOn, withPolicy}
+use Rattle.points.specs.Worked.{worked, workedAfter}
+
+-- ---- three states: the worked example built and after seven ticks, and the empty simulation
+
+-- the double above 2^41, 3 and 101
+abbrev pub aboveHeld : Float
+aboveHeld = fin false 4503599627370497 (negsuc 10)
+
+abbrev pub three : Float
+three = fin false 3 (pos 0)
+
+abbrev pub toggleTime : Float
+toggleTime = fin false 101 (pos 0)
+
+abbrev pub packetOf : ℕ → ℕ → Float → Packet
+packetOf sender seq sent = record { sender = sender; seq = seq; «sent_time» = timeOf sent }
+
+abbrev pub transitOf : Packet → Float → Transit
+transitOf p due = record { packet = p; due = timeOf due }
+
+-- clock 3, the link next: 0:4 waits and may start at 3, 0:2 is on the line and due at 3; 0:1 is counted, and the sender is on until 101
+unfoldable pub busy : Simulation
+busy =
+    record {
+      network = worked;
+      head = record { clock = timeOf three; next = Next.Part 0 };
+      line =
+          record {
+            «earliest_transmit» = timeOf three;
+            «buffer_contains» = amountOf 8;
+            waiting = record { start = 2; count = 1 };
+            «on_line» = record { start = 1; count = 1 };
+            rng = fromWords 14956314531195876544 7576440072486442806 6053824538967488443 6254198100547973758;
+          };
+      waiting = packetOf 0 1 (power 0) ∷ packetOf 0 2 (power 0) ∷ packetOf 0 4 (power 1) ∷ replicate 509 blankPacket;
+      «on_line» = transitOf (packetOf 0 1 (power 0)) (power 1) ∷ transitOf (packetOf 0 2 (power 0)) three ∷ replicate 510 blankTransit;
+      senders =
+          record {
+            «packets_sent» = 4;
+            state = State.Enabled (record { started = timeOf (power 0); «greatest_ack» = 1; cwnd = 3; timer = None });
+            rng = fromWords 3406718355780431780 10892412867582108485 18204613561675945223 9655336933892813345;
+          }
+          ∷ replicate 15 (newSender zeroWords);
+      togglers =
+          record {
+            enabled = true;
+            «next_toggle» = timeOf toggleTime;
+            rng = fromWords 1781989159761824720 2477283028068920342 16978024111547606601 6336475467619303347;
+          }
+          ∷ replicate 15 blankToggler;
+      meters =
+          record { «total_time» = spanOf zeroF; «current_start» = Some (timeOf (power 0)); total = amountOf 8; records = 1; «rtt_sum» = spanOf (power 0) }
+          ∷ replicate 15 newMeter;
+      queue = noQueued ∷ noQueued ∷ record { time = Some (timeOf toggleTime) } ∷ replicate 30 noQueued;
+    }
+
+-- clock 1, the toggler next
+unfoldable pub quiet : Simulation
+quiet =
+    record {
+      network = worked;
+      head = record { clock = timeOf (power 0); next = Next.Part 2 };
+      line = newLine (fromWords 14971601782005023387 13781649495232077965 1847458086238483744 13765271635752736470);
+      waiting = replicate 512 blankPacket;
+      «on_line» = replicate 512 blankTransit;
+      senders =
+          newSender (fromWords 3406718355780431780 10892412867582108485 18204613561675945223 9655336933892813345)
+          ∷ replicate 15 (newSender zeroWords);
+      togglers =
+          record {
+            enabled = false;
+            «next_toggle» = timeOf (power 0);
+            rng = fromWords 1781989159761824720 2477283028068920342 16978024111547606601 6336475467619303347;
+          }
+          ∷ replicate 15 blankToggler;
+      meters = replicate 16 newMeter;
+      queue = replicate queuePlaces noQueued;
+    }
+
+-- no senders, idle, clock MAX
+abbrev pub empty : Simulation
+empty = emptySimulation
+
+-- ---- one field anew
+
+abbrev pub withNetwork : Simulation → RemyNetwork → Simulation
+withNetwork s x =
+    record {
+      network = x;
+      head = s .head;
+      line = s .line;
+      waiting = s .waiting;
+      «on_line» = s .«on_line»;
+      senders = s .senders;
+      togglers = s .togglers;
+      meters = s .meters;
+      queue = s .queue;
+    }
+
+abbrev pub withClock : Simulation → Float → Simulation
+withClock s x = withHead s (record { clock = timeOf x; next = s .head .next })
+
+abbrev pub withNext : Simulation → Next → Simulation
+withNext s x = withHead s (record { clock = s .head .clock; next = x })
+
+abbrev pub queuedFor : Simulation → ℕ → Float → Simulation
+queuedFor s k x = withQueued s k (Some (timeOf x))
+
+-- the line: earliest start, waiting bits, the start and the count of those that wait and of those on the line
+abbrev pub lineWith : Simulation → Float → ℕ → ℕ → ℕ → ℕ → ℕ → Simulation
+lineWith s free bits waitingFrom waiting onLineFrom onLine =
+    withLine s
+    (record {
+      «earliest_transmit» = timeOf free;
+      «buffer_contains» = amountOf bits;
+      waiting = record { start = waitingFrom; count = waiting };
+      «on_line» = record { start = onLineFrom; count = onLine };
+      rng = s .line .rng;
+    })
+
+abbrev pub withStart : Simulation → Float → Simulation
+withStart s x = lineWith s x 8 2 1 1 1
+
+abbrev pub withWaitingBits : Simulation → ℕ → Simulation
+withWaitingBits s x = lineWith s three x 2 1 1 1
+
+-- the first that waits, and the first on the line
+abbrev pub withFirst : Simulation → Packet → Simulation
+withFirst s x = withWaiting s (set (s .waiting) 2 x)
+
+abbrev pub withFront : Simulation → Transit → Simulation
+withFront s x = withOnLine s (set (s .«on_line») 1 x)
+
+-- sender 0, which is on
+abbrev pub changed : (Enabled → Enabled) → SenderState → SenderState
+changed f State.WaitingForEnable = State.WaitingForEnable
+changed f (State.Enabled e) = State.Enabled (f e)
+
+abbrev pub senderWith : Simulation → ℕ → SenderState → Simulation
+senderWith s sent state = withSender s 0 (record { «packets_sent» = sent; state = state; rng = senderAt s 0 .rng })
+
+abbrev pub withSent : Simulation → ℕ → Simulation
+withSent s x = senderWith s x (senderAt s 0 .state)
+
+abbrev pub withEnabled : Simulation → (Enabled → Enabled) → Simulation
+withEnabled s f = senderWith s (senderAt s 0 .«packets_sent») (changed f (senderAt s 0 .state))
+
+abbrev pub withStarted : Simulation → Float → Simulation
+withStarted s x = withEnabled s (λ e. record { started = timeOf x; «greatest_ack» = e .«greatest_ack»; cwnd = e .cwnd; timer = e .timer })
+
+abbrev pub withAck : Simulation → ℕ → Simulation
+withAck s x = withEnabled s (λ e. record { started = e .started; «greatest_ack» = x; cwnd = e .cwnd; timer = e .timer })
+
+abbrev pub withWindow : Simulation → ℕ → Simulation
+withWindow s x = withEnabled s (λ e. record { started = e .started; «greatest_ack» = e .«greatest_ack»; cwnd = x; timer = e .timer })
+
+abbrev pub withTimer : Simulation → Float → Simulation
+withTimer s x = withEnabled s (λ e. record { started = e .started; «greatest_ack» = e .«greatest_ack»; cwnd = e .cwnd; timer = Some (timeOf x) })
+
+abbrev pub switchedOff : Simulation → Simulation
+switchedOff s = senderWith s (senderAt s 0 .«packets_sent») State.WaitingForEnable
+
+-- toggler 0: on or off, and its next toggle
+abbrev pub withToggle : Simulation → Bool → Float → Simulation
+withToggle s on x = withToggler s 0 (record { enabled = on; «next_toggle» = timeOf x; rng = togglerAt s 0 .rng })
+
+-- meter 0: total enabled time, start, bits, records, RTT sum
+abbrev pub meterWith : Simulation → Float → OptionTime → ℕ → ℕ → Float → Simulation
+meterWith s total start bits records sum =
+    withMeter s 0 (record { «total_time» = spanOf total; «current_start» = start; total = amountOf bits; records = records; «rtt_sum» = spanOf sum })
+
+abbrev pub withTotal : Simulation → Float → Simulation
+withTotal s x = meterWith s x (Some (timeOf (power 0))) 8 1 (power 0)
+
+abbrev pub withMeterStart : Simulation → OptionTime → Simulation
+withMeterStart s x = meterWith s zeroF x 8 1 (power 0)
+
+abbrev pub withMeterBits : Simulation → ℕ → Simulation
+withMeterBits s x = meterWith s zeroF (Some (timeOf (power 0))) x 1 (power 0)
+
+abbrev pub withRecords : Simulation → ℕ → Simulation
+withRecords s x = meterWith s zeroF (Some (timeOf (power 0))) (x * 8) x (power 0)
+
+abbrev pub withRttSum : Simulation → Float → Simulation
+withRttSum s x = meterWith s zeroF (Some (timeOf (power 0))) 8 1 x
+
+-- ---- more of them
+
+-- so many wait from this place on, each packet 0:1; so many are on the line
+abbrev pub waiters : ℕ → ℕ → Simulation
+waiters start count = lineWith (withWaiting (withSent busy 1000) (replicate 512 (packetOf 0 1 (power 0)))) three (count * 8) start count 1 1
+
+abbrev pub travellers : ℕ → ℕ → Simulation
+travellers start count = lineWith (withOnLine (withSent busy 1000) (replicate 512 (transitOf (packetOf 0 1 (power 0)) three))) three 8 2 1 start count
+
+-- two on the line: due at 3, then at this time
+abbrev pub twoDue : Float → Simulation
+twoDue x = lineWith (withOnLine busy (set (busy .«on_line») 2 (transitOf (packetOf 0 3 (power 0)) x))) three 8 2 1 1 2
+
+-- a sender that may send, so that its own next time is the clock
+abbrev pub sending : Simulation → Simulation
+sending s = queuedFor s 1 three
+
+-- the same with a timed policy, and a timer at this time, not before the clock
+abbrev pub timed : Simulation
+timed = withNetwork busy (withPolicy (Timed 64 (power 0)))
+
+abbrev pub sendingTimed : Float → Simulation
+sendingTimed x = sending (withTimer (withWindow timed 4) x)
+
+-- a sender that may not send, queued at its timer
+abbrev pub waitingFor : Simulation → Float → Simulation
+waitingFor s x = queuedFor (withTimer s x) 1 x
+
+-- a toggler queued at its next toggle
+abbrev pub toggling : Float → Simulation
+toggling x = queuedFor (withToggle busy true x) 2 x
+
+-- two senders, of which the second is off until 101
+abbrev pub pair : Simulation
+pair = queuedFor (withToggler (withNetwork busy (withSenders 2)) 1 (record { enabled = false; «next_toggle» = timeOf toggleTime; rng = zeroWords })) 4 toggleTime
+
+-- the link queued, so that another part may be next
+abbrev pub linkQueued : Simulation
+linkQueued = queuedFor busy 0 three
+
+-- ---- the tests, in the paragraph's order: a clause that has several inside has a name for each
+
+pub data Test : Type 0 where
+  network : Test
+  waitingCount onLineCount waitingStart onLineStart : Test
+  waitingPacket onLinePacket : Test
+  waitingBits clock : Test
+  heldClock heldStart heldWaiting heldOnLine heldDue heldBySender heldToggle heldByMeter heldQueue : Test
+  pastWaiting pastOnLine pastStarted pastMeter : Test
+  total rttSum records due counts window timer toggler meter meterBits : Test
+  next others : Test
+
+-- a test, and whether a state passes it
+pub record Row : Type 0 where
+  pub test : Test
+  pub passes : Bool
+
+abbrev pub row : Test → Bool → Row
+row test passes = record { test = test; passes = passes }
+
+abbrev pub rows : Simulation → List Row
+rows s =
+    row network (networkFit s)
+    ∷ row waitingCount (leb (s .line .waiting .count) places)
+    ∷ row onLineCount (leb (s .line .«on_line» .count) places)
+    ∷ row waitingStart (ltb (s .line .waiting .start) places)
+    ∷ row onLineStart (ltb (s .line .«on_line» .start) places)
+    ∷ row waitingPacket (every (packetFit s) (waitingItems s))
+    ∷ row onLinePacket (every (packetFit s) (onLinePackets s))
+    ∷ row waitingBits (bitsFit s)
+    ∷ row clock (clockFit s)
+    ∷ row heldClock (held (s .head .clock) || (isIdle (s .head .next) && eq (s .head .clock .0 .0) largest))
+    ∷ row heldStart (held (s .line .«earliest_transmit»))
+    ∷ row heldWaiting (every (λ p. held (p .«sent_time»)) (waitingItems s))
+    ∷ row heldOnLine (every (λ p. held (p .«sent_time»)) (onLinePackets s))
+    ∷ row heldDue (every (λ x. held (x .due)) (onLineItems s))
+    ∷ row heldBySender (eachSender s (λ i. heldSender (senderAt s i .state)))
+    ∷ row heldToggle (eachSender s (λ i. held (togglerAt s i .«next_toggle»)))
+    ∷ row heldByMeter (eachSender s (λ i. heldIfAny (meterAt s i .«current_start»)))
+    ∷ row heldQueue (upTo queuePlaces (λ k. isNext (s .head .next) k || heldQueued s (queuedAt s k)))
+    ∷ row pastWaiting (every (λ p. sinceStart s (p .«sent_time»)) (waitingItems s))
+    ∷ row pastOnLine (every (λ p. sinceStart s (p .«sent_time»)) (onLinePackets s))
+    ∷ row pastStarted (eachSender s (λ i. startedFit s (senderAt s i .state)))
+    ∷ row pastMeter (eachSender s (λ i. meterStartFit s (meterAt s i .«current_start»)))
+    ∷ row total (totalsFit s)
+    ∷ row rttSum (sumsFit s)
+    ∷ row records (recordsFit s)
+    ∷ row due (dueFit s)
+    ∷ row counts (countsFit s)
+    ∷ row window (windowsFit s)
+    ∷ row timer (timersFit s)
+    ∷ row toggler (togglersAgree s)
+    ∷ row meter (metersAgree s)
+    ∷ row meterBits (meterBitsFit s)
+    ∷ row next (nextFit s (s .head .next))
+    ∷ row others (upTo queuePlaces (λ k. isNext (s .head .next) k || sameTime (queuedAt s k) (nextTimeOf s k)))
+    ∷ []
+
+-- all of them; they are what `fit` tests
+abbrev pub allPass : Bool → List Row → Bool
+allPass so [] = so
+allPass so (r ∷ rs) = allPass (so && r .passes) rs
+
+-- those that a state does not pass
+abbrev pub failed : List Row → List Test
+failed [] = []
+failed (r ∷ rs) = cond (r .passes) (failed rs) (r .test ∷ failed rs)
+
+-- unfit by these tests and no others; fit
+abbrev pub Unfit : List Test → Simulation → Type 0
+Unfit tests s = (fit s ≡ false) × (failed (rows s) ≡ tests)
+
+abbrev pub Fit : Simulation → Type 0
+Fit s = fit s ≡ true
+
+-- ---- the claims
+
+abbrev pub unfit : List (Type 0)
+unfit =
+    ((s : Simulation) → fit s ≡ allPass true (rows s))
+    ∷ (workedAfter 7 ≡ busy)
+    ∷ (workedAfter 0 ≡ quiet)
+    ∷ (double 0x4280000000000000 ≡ power 41)
+    ∷ (double 0x4280000000000001 ≡ aboveHeld)
+    ∷ Fit busy
+    ∷ Fit quiet
+    ∷ Fit empty
+    -- Network outside 1 to 7. (Over 16 senders: the seventeenth has no meter, so other clauses refuse it too.)
+    ∷ Fit (withNetwork busy good)
+    ∷ Unfit (network ∷ []) (withNetwork busy (withDelay nan))
+    ∷ Unfit (network ∷ []) (withNetwork busy (withRate zeroF))
+    ∷ Unfit (network ∷ []) (withNetwork busy (withLoss nan))
+    ∷ Unfit (network ∷ []) (withNetwork busy (withLimit (Limit.Bits 1125899906842625)))
+    ∷ Unfit (network ∷ []) (withNetwork quiet (withBits 0))
+    ∷ Unfit (network ∷ []) (withNetwork busy (withOn (Always zeroF)))
+    ∷ Unfit (network ∷ []) (withNetwork busy (withPolicy (Held 0)))
+    -- A count of waiting or on-line packets above 512
+    ∷ Fit (waiters 0 512)
+    ∷ Unfit (waitingCount ∷ []) (waiters 0 513)
+    ∷ Fit (travellers 0 512)
+    ∷ Unfit (onLineCount ∷ []) (travellers 0 513)
+    -- or a queue start above 511.
+    ∷ Fit (waiters 511 2)
+    ∷ Unfit (waitingStart ∷ []) (waiters 512 2)
+    ∷ Fit (travellers 511 2)
+    ∷ Unfit (onLineStart ∷ []) (travellers 512 2)
+    -- A packet naming no sender
+    ∷ Unfit (waitingPacket ∷ []) (withFirst busy (packetOf 1 4 (power 1)))
+    ∷ Unfit (onLinePacket ∷ []) (withFront busy (transitOf (packetOf 1 2 (power 0)) three))
+    -- or with a sequence outside 1..sent.
+    ∷ Fit (withFirst busy (packetOf 0 1 (power 1)))
+    ∷ Unfit (waitingPacket ∷ []) (withFirst busy (packetOf 0 0 (power 1)))
+    ∷ Unfit (waitingPacket ∷ []) (withFirst busy (packetOf 0 5 (power 1)))
+    ∷ Fit (withFront busy (transitOf (packetOf 0 4 (power 0)) three))
+    ∷ Unfit (onLinePacket ∷ []) (withFront busy (transitOf (packetOf 0 0 (power 0)) three))
+    ∷ Unfit (onLinePacket ∷ []) (withFront busy (transitOf (packetOf 0 5 (power 0)) three))
+    -- Waiting bits other than the waiting packets' bits.
+    ∷ Unfit (waitingBits ∷ []) (withWaitingBits busy 7)
+    ∷ Unfit (waitingBits ∷ []) (withWaitingBits busy 9)
+    -- A clock below 0. (A NaN is a held time too. Where a sender is on, its start is outside 0..clock too.)
+    ∷ Fit (withClock empty zeroF)
+    ∷ Fit (withClock empty minusZero)
+    ∷ Unfit (clock ∷ []) (withClock empty belowZero)
+    ∷ Unfit (clock ∷ heldClock ∷ []) (withClock empty nan)
+    -- A held time NaN, above 2^41: the clock; an idle state's clock MAX is exempt. (Where a part is next, its own next time is the clock.)
+    ∷ Fit (withClock empty (power 41))
+    ∷ Unfit (heldClock ∷ []) (withClock empty aboveHeld)
+    ∷ Unfit (heldClock ∷ []) (withClock empty (inf false))
+    ∷ Fit (withClock empty largest)
+    ∷ Fit (withClock (withToggle quiet false (power 41)) (power 41))
+    ∷ Unfit (heldClock ∷ heldToggle ∷ []) (withClock (withToggle quiet false largest) largest)
+    -- the earliest start,
+    ∷ Fit (withStart busy (power 41))
+    ∷ Unfit (heldStart ∷ []) (withStart busy aboveHeld)
+    ∷ Unfit (heldStart ∷ []) (withStart busy nan)
+    -- a packet's sent time (never alone: while the clock is held, it is outside 0..clock too),
+    ∷ Unfit (heldWaiting ∷ pastWaiting ∷ []) (withFirst busy (packetOf 0 4 aboveHeld))
+    ∷ Unfit (heldWaiting ∷ pastWaiting ∷ []) (withFirst busy (packetOf 0 4 nan))
+    ∷ Unfit (heldOnLine ∷ pastOnLine ∷ []) (withFront busy (transitOf (packetOf 0 2 aboveHeld) three))
+    ∷ Unfit (heldOnLine ∷ pastOnLine ∷ []) (withFront busy (transitOf (packetOf 0 2 nan) three))
+    -- a due time,
+    ∷ Fit (withFront busy (transitOf (packetOf 0 2 (power 0)) (power 41)))
+    ∷ Unfit (heldDue ∷ []) (withFront busy (transitOf (packetOf 0 2 (power 0)) aboveHeld))
+    ∷ Unfit (heldDue ∷ []) (withFront busy (transitOf (packetOf 0 2 (power 0)) nan))
+    -- a sender's started (never alone, as a sent time) and its timer,
+    ∷ Unfit (heldBySender ∷ pastStarted ∷ []) (withStarted busy aboveHeld)
+    ∷ Unfit (heldBySender ∷ pastStarted ∷ []) (withStarted busy nan)
+    ∷ Fit (sendingTimed (power 41))
+    ∷ Unfit (heldBySender ∷ []) (sendingTimed aboveHeld)
+    ∷ Unfit (heldBySender ∷ []) (sendingTimed nan)
+    -- a toggle (never alone: it is the clock or queued),
+    ∷ Fit (toggling (power 41))
+    ∷ Unfit (heldToggle ∷ heldQueue ∷ []) (toggling aboveHeld)
+    ∷ Unfit (heldToggle ∷ heldQueue ∷ others ∷ []) (toggling nan)
+    -- a meter's start (never alone, as a sent time),
+    ∷ Unfit (heldByMeter ∷ pastMeter ∷ []) (withMeterStart busy (Some (timeOf aboveHeld)))
+    ∷ Unfit (heldByMeter ∷ pastMeter ∷ []) (withMeterStart busy (Some (timeOf nan)))
+    -- or queued below the clock. (A time queued above 2^41 is never alone: it is a start, a due time, a timer or a toggle.)
+    ∷ Fit (toggling three)
+    ∷ Unfit (heldQueue ∷ []) (toggling (power 1))
+    ∷ Fit (waitingFor timed three)
+    ∷ Unfit (heldQueue ∷ []) (waitingFor timed (power 1))
+    -- A packet's sent time,
+    ∷ Fit (withFirst busy (packetOf 0 4 zeroF))
+    ∷ Fit (withFirst busy (packetOf 0 4 three))
+    ∷ Unfit (pastWaiting ∷ []) (withFirst busy (packetOf 0 4 belowZero))
+    ∷ Unfit (pastWaiting ∷ []) (withFirst busy (packetOf 0 4 (power 2)))
+    ∷ Fit (withFront busy (transitOf (packetOf 0 2 zeroF) three))
+    ∷ Fit (withFront busy (transitOf (packetOf 0 2 three) three))
+    ∷ Unfit (pastOnLine ∷ []) (withFront busy (transitOf (packetOf 0 2 belowZero) three))
+    ∷ Unfit (pastOnLine ∷ []) (withFront busy (transitOf (packetOf 0 2 (power 2)) three))
+    -- a sender's started
+    ∷ Fit (withStarted busy zeroF)
+    ∷ Fit (withStarted busy three)
+    ∷ Unfit (pastStarted ∷ []) (withStarted busy belowZero)
+    ∷ Unfit (pastStarted ∷ []) (withStarted busy (power 2))
+    -- or a meter's start outside 0..clock.
+    ∷ Fit (withMeterStart busy (Some (timeOf zeroF)))
+    ∷ Fit (withMeterStart busy (Some (timeOf three)))
+    ∷ Unfit (pastMeter ∷ []) (withMeterStart busy (Some (timeOf belowZero)))
+    ∷ Unfit (pastMeter ∷ []) (withMeterStart busy (Some (timeOf (power 2))))
+    -- A total enabled time negative or not finite.
+    ∷ Fit (withTotal busy minusZero)
+    ∷ Fit (withTotal busy largest)
+    ∷ Unfit (total ∷ []) (withTotal busy belowZero)
+    ∷ Unfit (total ∷ []) (withTotal busy (inf false))
+    ∷ Unfit (total ∷ []) (withTotal busy nan)
+    -- An RTT sum outside 0..records times 2^41.
+    ∷ Fit (withRttSum busy minusZero)
+    ∷ Fit (withRttSum busy (power 41))
+    ∷ Unfit (rttSum ∷ []) (withRttSum busy belowZero)
+    ∷ Unfit (rttSum ∷ []) (withRttSum busy aboveHeld)
+    ∷ Unfit (rttSum ∷ []) (withRttSum busy nan)
+    ∷ Unfit (rttSum ∷ []) (meterWith quiet zeroF None 0 0 tiny)
+    -- Meter records above sent less the sender's packets waiting and on the line: of 4 sent, one waits and one is on the line.
+    ∷ Fit (withRecords busy 2)
+    ∷ Unfit (records ∷ []) (withRecords busy 3)
+    -- On-line due times that fall.
+    ∷ Fit (twoDue three)
+    ∷ Fit (twoDue (power 2))
+    ∷ Unfit (due ∷ []) (twoDue (power 1))
+    -- Sent or greatest ack above 2^24.
+    ∷ Fit (withSent busy 16777216)
+    ∷ Unfit (counts ∷ []) (withSent busy 16777217)
+    ∷ Fit (sending (withAck busy 16777216))
+    ∷ Unfit (counts ∷ []) (sending (withAck busy 16777217))
+    -- A window outside 1..64.
+    ∷ Fit (withWindow busy 1)
+    ∷ Unfit (window ∷ []) (withWindow busy 0)
+    ∷ Fit (sending (withWindow busy 64))
+    ∷ Unfit (window ∷ []) (sending (withWindow busy 65))
+    -- A timer held while off (an off sender's type holds none) or not timed.
+    ∷ Fit (waitingFor timed (power 2))
+    ∷ Unfit (timer ∷ []) (waitingFor busy (power 2))
+    -- Toggler and sender disagreeing on on/off.
+    ∷ Unfit (toggler ∷ []) (withToggle busy false toggleTime)
+    ∷ Unfit (toggler ∷ []) (withToggle quiet true (power 0))
+    -- Sender and its meter disagreeing on on/off.
+    ∷ Unfit (meter ∷ []) (withMeterStart busy None)
+    ∷ Unfit (meter ∷ []) (meterWith quiet zeroF (Some (timeOf zeroF)) 0 0 zeroF)
+    ∷ Unfit (toggler ∷ meter ∷ []) (switchedOff busy)
+    ∷ Fit (withMeterStart (withToggle (switchedOff busy) false toggleTime) None)
+    -- Meter bits other than its records times the packet bits.
+    ∷ Unfit (meterBits ∷ []) (withMeterBits busy 7)
+    ∷ Unfit (meterBits ∷ []) (withMeterBits busy 9)
+    -- A next component whose own next time isn't the clock: another time, none, and no component,
+    ∷ Unfit (next ∷ []) (withClock busy (fin false 5 (negsuc 0)))
+    ∷ Unfit (next ∷ []) (withNext linkQueued (Next.Part 1))
+    ∷ Unfit (next ∷ []) (withNext linkQueued (Next.Part 3))
+    -- none though a part is queued,
+    ∷ Unfit (next ∷ []) (withNext linkQueued Next.None)
+    -- or another part whose queued time isn't its own next time,
+    ∷ Unfit (others ∷ []) (queuedFor busy 2 (power 6))
+    -- queued with none,
+    ∷ Unfit (others ∷ []) (queuedFor busy 1 three)
+    ∷ Unfit (others ∷ []) (queuedFor busy 3 three)
+    ∷ Unfit (others ∷ []) (queuedFor busy 32 three)
+    -- or not queued with one.
+    ∷ Unfit (others ∷ []) (withQueued busy 2 None)
+    ∷ Unfit (others ∷ []) (withNext quiet Next.None)
+    -- Every sender of the network is read, and none above them.
+    ∷ Fit pair
+    ∷ Unfit (total ∷ rttSum ∷ []) (withMeter pair 1 noMeter)
+    ∷ Unfit (heldToggle ∷ others ∷ []) (withToggler pair 1 noToggler)
+    ∷ Fit (withMeter busy 1 noMeter)
+    ∷ Fit (withToggler busy 1 noToggler)
+    -- In no clause: the next part's own place in the queue, waiting bits above the limit, a packet held twice, a greatest ack above sent.
+    ∷ Fit (queuedFor busy 0 nan)
+    ∷ Fit (waiters 0 2)
+    ∷ Fit (withFirst busy (packetOf 0 2 (power 1)))
+    ∷ Fit (sending (withAck busy 5))
+    ∷ []

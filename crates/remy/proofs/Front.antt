@@ -1,0 +1,118 @@
+-- In a fit state: what is known of the first packet on the line, and of its sender's meter. Assumes nothing.
+use mathlib.Core.Path.{_≡_, refl, sym, ap, subst, _∙_}
+use mathlib.Core.Bool.{Bool, true, false, not, _&&_, _||_, cond}
+use mathlib.Core.List.{List, [], _∷_, map}
+use Prim.Native.Nat.{ℕ, _+_, _*_, _≤_, _<_}
+use native.Mathlib.Omega.{arith}
+use borrow.Author.Tests.{eq-eqb, leb-true, ltb-true, eqb-true}
+use lib.Dec.{T, leb, ltb, eqb}
+use lib.ListN.{getD}
+use lib.Ieee.{lt, le, isNan}
+use lib.Ieee.Bits.{is-true}
+use lib.Dec.{not-T}
+use Rattle.quantities.specs.declared.time.Time.{Time}
+use Rattle.quantities.specs.declared.time.OptionTime.{OptionTime}
+use Rattle.quantities.specs.declared.time.OptionTime.the-variants.{None, Some}
+use Rattle.quantities.specs.Doubles.{zeroF, power, inRange}
+use Rattle.quantities.proofs.Order.{le-known-r, not-lt→le}
+use Rattle.meters.specs.Meter.{totalFit, sumFit}
+use Rattle.components.specs.declared.packet.Packet.{Packet}
+use Rattle.components.specs.declared.packet.Transit.{Transit}
+use Rattle.components.specs.Ring.{items, popped}
+use Rattle.components.proofs.Items.{Sound, items-pop}
+use Rattle.remy.specs.declared.simulation.Simulation.{Simulation}
+use Rattle.remy.specs.Network.{between, networkStop}
+use Rattle.remy.specs.State.{noTransit, senderAt, meterAt, frontOf, waitingItems, onLineItems, onLinePackets}
+use Rattle.remy.specs.Fit.{every, eachSender, packetFit, packetsFit, clockFit, sinceStart, startedFit, meterStartFit, pastFit, totalsFit, sumsFit, countOf, recordsFit, ackFit, countsFit, meterBitsFit, networkFit}
+use Rattle.remy.proofs.Facts.{both-l, both-r, upTo-at, every-first, FitState}
+use Rattle.remy.proofs.Networks.{FitNetwork, fit-network, few-bits}
+use Rattle.remy.proofs.Taken.{MeterFacts}
+
+module _ (s : Simulation) (f : FitState s) where
+  pub accepted : FitNetwork (s .network)
+  unfolding networkFit
+  accepted = fit-network (s .network) (eqb-true (networkStop (s .network)) 0 (f .network))
+
+  from-zero : T (le zeroF (s .head .clock .0 .0))
+  unfolding clockFit
+  from-zero = subst T (sym (f .clock)) tt
+
+  -- the clock that stop 10 lets pass
+  pub clock-bounded : lt (power 40) (s .head .clock .0 .0) ≡ false → T (le (s .head .clock .0 .0) (power 40))
+  clock-bounded e =
+      not-lt→le (power 40) (s .head .clock .0 .0) (le-known-r (power 40) (power 40) (unfold le in tt)) (le-known-r zeroF (s .head .clock .0 .0) from-zero)
+      (subst (λ (b : Bool). T (not b)) (sym e) tt)
+
+  module _ (i : ℕ) (h : i < s .network .senders) where
+    at : (g : ℕ → Bool) → eachSender s g ≡ true → g i ≡ true
+    at g e = upTo-at (s .network .senders) g e i h
+
+    sent-few : senderAt s i .«packets_sent» ≤ 16777216
+    unfolding countsFit
+    sent-few =
+        leb-true (senderAt s i .«packets_sent») 16777216
+        (both-l (leb (senderAt s i .«packets_sent») 16777216) (ackFit (senderAt s i .state)) (at (λ j. leb (senderAt s j .«packets_sent») 16777216 && ackFit (senderAt s j .state)) (f .counts)))
+
+    pub records-few : meterAt s i .records + countOf i (waitingItems s) + countOf i (onLinePackets s) ≤ 16777216
+    unfolding recordsFit
+    records-few =
+        let within : meterAt s i .records + countOf i (waitingItems s) + countOf i (onLinePackets s) ≤ senderAt s i .«packets_sent» =
+        leb-true _ (senderAt s i .«packets_sent») (at (λ j. leb (meterAt s j .records + countOf j (waitingItems s) + countOf j (onLinePackets s)) (senderAt s j .«packets_sent»)) (f .records)) in
+        omega (arith, within, sent-few)
+
+    starts-past : (t : Time) → meterAt s i .«current_start» ≡ Some t → inRange zeroF (s .head .clock .0 .0) (t .0 .0) ≡ true
+    unfolding pastFit
+    starts-past t e =
+        let waiting = every (λ p. sinceStart s (p .«sent_time»)) (waitingItems s) in
+        let moving = every (λ p. sinceStart s (p .«sent_time»)) (onLinePackets s) in
+        let senders = eachSender s (λ j. startedFit s (senderAt s j .state)) in
+        let meters = eachSender s (λ j. meterStartFit s (meterAt s j .«current_start»)) in
+        subst (λ (o : OptionTime). meterStartFit s o ≡ true) e (at (λ j. meterStartFit s (meterAt s j .«current_start»)) (both-r (waiting && moving && senders) meters (f .past)))
+
+    pub meter-facts : lt (power 40) (s .head .clock .0 .0) ≡ false → MeterFacts (meterAt s i) (s .head .clock) (s .network .bits)
+    unfolding totalsFit sumsFit meterBitsFit
+    meter-facts e =
+        record {
+          few = omega (arith, records-few);
+          bits = eqb-true (meterAt s i .total .0) (meterAt s i .records * s .network .bits) (at (λ j. eqb (meterAt s j .total .0) (meterAt s j .records * s .network .bits)) (f .meter-bits));
+          small = few-bits accepted;
+          start = starts-past;
+          total = at (λ j. totalFit (meterAt s j .«total_time»)) (f .totals);
+          sum = at (λ j. sumFit (meterAt s j .records) (meterAt s j .«rtt_sum»)) (f .sums);
+          from-zero = from-zero;
+          bounded = clock-bounded e;
+        }
+
+  -- ---- the first packet on the line
+  module _ (sound : Sound (s .«on_line») (s .line .«on_line»)) (some : 0 < s .line .«on_line» .count) where
+    split : onLinePackets s ≡ frontOf s .packet ∷ map (λ x. x .packet) (items noTransit (s .«on_line») (popped (s .line .«on_line»)))
+    split = ap (map (λ x. x .packet)) (items-pop sound noTransit some)
+
+    -- what every packet on the line has
+    first : (g : Packet → Bool) → every g (onLinePackets s) ≡ true → g (frontOf s .packet) ≡ true
+    first g e =
+        every-first g (frontOf s .packet) (map (λ x. x .packet) (items noTransit (s .«on_line») (popped (s .line .«on_line»)))) (ap (every g) (sym split) ∙ e)
+
+    pub front-sender : frontOf s .packet .sender < s .network .senders
+    unfolding packetsFit
+    front-sender =
+        ltb-true (frontOf s .packet .sender) (s .network .senders)
+        (both-l (ltb (frontOf s .packet .sender) (s .network .senders)) (between 1 (senderAt s (frontOf s .packet .sender) .«packets_sent») (frontOf s .packet .seq))
+        (first (packetFit s) (both-r (every (packetFit s) (waitingItems s)) (every (packetFit s) (onLinePackets s)) (f .packets))))
+
+    pub front-past : inRange zeroF (s .head .clock .0 .0) (frontOf s .packet .«sent_time» .0 .0) ≡ true
+    unfolding pastFit
+    front-past =
+        let waiting = every (λ p. sinceStart s (p .«sent_time»)) (waitingItems s) in
+        let moving = every (λ p. sinceStart s (p .«sent_time»)) (onLinePackets s) in
+        let senders = eachSender s (λ j. startedFit s (senderAt s j .state)) in
+        let meters = eachSender s (λ j. meterStartFit s (meterAt s j .«current_start»)) in
+        first (λ p. sinceStart s (p .«sent_time»)) (both-r waiting moving (both-l (waiting && moving) senders (both-l (waiting && moving && senders) meters (f .past))))
+
+    -- its sender's meter has room: the packet itself is not counted yet
+    pub front-room : meterAt s (frontOf s .packet .sender) .records < 16777216
+    front-room =
+        let i = frontOf s .packet .sender in
+        let counted : countOf i (onLinePackets s) ≡ 1 + countOf i (map (λ x. x .packet) (items noTransit (s .«on_line») (popped (s .line .«on_line»)))) =
+        ap (countOf i) split ∙ rw (eq-eqb i i refl) in
+        omega (arith, records-few i front-sender, counted)

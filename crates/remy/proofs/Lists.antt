@@ -1,0 +1,79 @@
+-- Lists of entries, and sums of weights over lists of packets: both go through an append. Assumes nothing.
+use mathlib.Core.Path.{_≡_, refl, sym, ap, ap₂, _∙_}
+use mathlib.Core.Bool.{Bool, true, false, _||_, cond}
+use mathlib.Core.List.{List, [], _∷_, _++_, map, append-assoc}
+use Prim.Native.Nat.{ℕ, zero, suc, _+_}
+use native.Mathlib.Nat.{zero-add, add-assoc}
+use native.Mathlib.Omega.{arith}
+use lib.ListN.{length, take}
+use lib.Seq.{take-at}
+use Rattle.quantities.specs.declared.time.Time.{Time}
+use Rattle.components.specs.declared.packet.Packet.{Packet}
+use Rattle.remy.specs.declared.simulation.Mark.{Mark}
+use Rattle.remy.specs.declared.simulation.Name.{Name}
+use Rattle.remy.specs.declared.simulation.Name.the-variants as Name
+use Rattle.remy.specs.declared.simulation.TickRecord.{TickRecord}
+use Rattle.remy.specs.State.{totalBits}
+use Rattle.remy.specs.History.{PacketId, Entry, ids, times, entryIf, entries, starts}
+use Rattle.remy.specs.Account.{total}
+
+-- ---- map, length and take
+
+pub map-append : {A B : Type 0} (f : A → B) (xs ys : List A) → map f (xs ++ ys) ≡ map f xs ++ map f ys
+map-append f [] ys = refl
+map-append f (x ∷ xs) ys = ap (λ l. f x ∷ l) (map-append f xs ys)
+
+pub map-length : {A B : Type 0} (f : A → B) (xs : List A) → length (map f xs) ≡ length xs
+map-length f [] = refl
+map-length f (x ∷ xs) = rw (map-length f xs)
+
+pub map-take : {A B : Type 0} (f : A → B) (n : ℕ) (xs : List A) → map f (take n xs) ≡ take n (map f xs)
+map-take f zero xs = refl
+map-take f (suc n) [] = refl
+map-take f (suc n) (x ∷ xs) = ap (λ l. f x ∷ l) (map-take f n xs)
+
+-- ---- entries
+
+entry-append : (b : Bool) (t : Time) (name : Name) (xs ys : List Entry) → entryIf b t name (xs ++ ys) ≡ entryIf b t name xs ++ ys
+entry-append false t name xs ys = refl
+entry-append true t Name.None xs ys = refl
+entry-append true t (Name.Packet i m) xs ys = refl
+
+pub entries-append : (f : Mark → Bool) (h k : List TickRecord) → entries f (h ++ k) ≡ entries f h ++ entries f k
+entries-append f [] k = refl
+entries-append f (r ∷ h) k =
+    ap (entryIf (f (r .mark)) (r .time) (r .packet)) (entries-append f h k) ∙ entry-append (f (r .mark)) (r .time) (r .packet) (entries f h) (entries f k)
+
+pub starts-append : (h k : List TickRecord) → starts (h ++ k) ≡ starts h ++ starts k
+starts-append [] k = refl
+starts-append (r ∷ h) k = ap (entryIf true (r .time) (r .started)) (starts-append h k) ∙ entry-append true (r .time) (r .started) (starts h) (starts k)
+
+-- ---- sums of weights
+
+module _ (f : PacketId → ℕ) where
+  pub total-append : (xs ys : List PacketId) → total f (xs ++ ys) ≡ total f xs + total f ys
+  total-append [] ys = sym (zero-add (total f ys))
+  total-append (x ∷ xs) ys = ap (λ n. f x + n) (total-append xs ys) ∙ sym (add-assoc (f x) (total f xs) (total f ys))
+
+  -- a record counts for one mark or another where it never has both
+  entry-both : (a b : Bool) (t : Time) (name : Name) (xs ys zs : List Entry) → (a ≡ true → b ≡ true → ⊥)
+      → total f (ids zs) ≡ total f (ids xs) + total f (ids ys)
+      → total f (ids (entryIf (a || b) t name zs)) ≡ total f (ids (entryIf a t name xs)) + total f (ids (entryIf b t name ys))
+  entry-both true true t name xs ys zs apart e = absurd (apart refl refl)
+  entry-both true false t Name.None xs ys zs apart e = e
+  entry-both true false t (Name.Packet i m) xs ys zs apart e = omega (arith, e)
+  entry-both false true t Name.None xs ys zs apart e = e
+  entry-both false true t (Name.Packet i m) xs ys zs apart e = omega (arith, e)
+  entry-both false false t name xs ys zs apart e = e
+
+  pub entries-either : (a b : Mark → Bool) → ((m : Mark) → a m ≡ true → b m ≡ true → ⊥) → (h : List TickRecord)
+      → total f (ids (entries (λ m. a m || b m) h)) ≡ total f (ids (entries a h)) + total f (ids (entries b h))
+  entries-either a b apart [] = refl
+  entries-either a b apart (r ∷ h) =
+      entry-both (a (r .mark)) (b (r .mark)) (r .time) (r .packet) (entries a h) (entries b h) (entries (λ m. a m || b m) h) (apart (r .mark)) (entries-either a b apart h)
+
+-- ---- sums of bits
+
+pub bits-append : (size : Packet → ℕ) (xs ys : List Packet) → totalBits size (xs ++ ys) ≡ totalBits size xs + totalBits size ys
+bits-append size [] ys = sym (zero-add (totalBits size ys))
+bits-append size (x ∷ xs) ys = ap (λ n. size x + n) (bits-append size xs ys) ∙ sym (add-assoc (size x) (totalBits size xs) (totalBits size ys))

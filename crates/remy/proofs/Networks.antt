@@ -1,0 +1,76 @@
+-- What an accepted network has: each range by name. Assumes nothing.
+use mathlib.Core.Path.{_≡_, refl, sym, ap, subst, _∙_}
+use mathlib.Core.Bool.{Bool, true, false, _&&_, cond}
+use Prim.Native.Nat.{ℕ, suc, _≤_, _<_}
+use native.Mathlib.Omega.{arith}
+use borrow.Author.Tests.{leb-true}
+use lib.Dec.{T, leb}
+use lib.IntN.{negsuc}
+use lib.Ieee.{fin, le}
+use Rattle.quantities.specs.Doubles.{zeroF, power}
+use Rattle.quantities.specs.Units.{amountOf, rateOf, amountOverRate}
+use Rattle.quantities.proofs.Order.{le-trans}
+use Rattle.quantities.proofs.Ranges.{sending}
+use Rattle.remy.specs.declared.network.RemyNetwork.{RemyNetwork}
+use Rattle.remy.specs.Network.{between, delayFit, rateFit, lossFit, limitFit, sizesFit, timesFit, policyFit, networkStop}
+use Rattle.remy.proofs.Facts.{both-l, both-r, range-low, range-high, between-low, between-high}
+
+pub record FitNetwork (n : RemyNetwork) : Type 0 where
+  pub delay : delayFit (n .delay) ≡ true
+  pub rate : rateFit (n .rate) ≡ true
+  pub loss : lossFit (n .loss) ≡ true
+  pub limit : limitFit (n .limit) ≡ true
+  pub sizes : sizesFit (n .bits) (n .senders) ≡ true
+  pub times : (timesFit (n .on) && timesFit (n .off)) ≡ true
+  pub policy : policyFit (n .policy) ≡ true
+
+-- a test that failed would have given its number
+passed : (b : Bool) (rest k : ℕ) → cond b rest (suc k) ≡ 0 → b ≡ true
+passed true rest k e = refl
+passed false rest k e = let no : ⊥ = omega arith in absurd no
+
+next : (b : Bool) (rest k : ℕ) → cond b rest (suc k) ≡ 0 → rest ≡ 0
+next true rest k e = e
+next false rest k e = let no : ⊥ = omega arith in absurd no
+
+pub fit-network : (n : RemyNetwork) → networkStop n ≡ 0 → FitNetwork n
+unfolding networkStop
+fit-network n e1 =
+    let e2 = next (delayFit (n .delay)) _ 0 e1 in
+    let e3 = next (rateFit (n .rate)) _ 1 e2 in
+    let e4 = next (lossFit (n .loss)) _ 2 e3 in
+    let e5 = next (limitFit (n .limit)) _ 3 e4 in
+    let e6 = next (sizesFit (n .bits) (n .senders)) _ 4 e5 in
+    let e7 = next (timesFit (n .on) && timesFit (n .off)) _ 5 e6 in
+    record {
+      delay = passed (delayFit (n .delay)) _ 0 e1;
+      rate = passed (rateFit (n .rate)) _ 1 e2;
+      loss = passed (lossFit (n .loss)) _ 2 e3;
+      limit = passed (limitFit (n .limit)) _ 3 e4;
+      sizes = passed (sizesFit (n .bits) (n .senders)) _ 4 e5;
+      times = passed (timesFit (n .on) && timesFit (n .off)) _ 5 e6;
+      policy = passed (policyFit (n .policy)) _ 6 e7;
+    }
+
+module _ {n : RemyNetwork} (f : FitNetwork n) where
+  pub few-senders : n .senders ≤ 16
+  few-senders = leb-true (n .senders) 16 (both-r (between 1 16777216 (n .bits)) (leb (n .senders) 16) (f .sizes))
+
+  bits-between : between 1 16777216 (n .bits) ≡ true
+  bits-between = both-l (between 1 16777216 (n .bits)) (leb (n .senders) 16) (f .sizes)
+
+  pub some-bits : 1 ≤ n .bits
+  some-bits = between-low 1 16777216 (n .bits) bits-between
+
+  pub few-bits : n .bits ≤ 16777216
+  few-bits = between-high 1 16777216 (n .bits) bits-between
+
+  pub delay-from-zero : T (le zeroF (n .delay))
+  delay-from-zero = range-low zeroF (power 20) (n .delay) (f .delay)
+
+  -- the time that a packet takes to start is not below zero
+  pub sending-from-zero : T (le zeroF (amountOverRate (amountOf (n .bits)) (rateOf (n .rate)) .0))
+  sending-from-zero =
+      let q = amountOverRate (amountOf (n .bits)) (rateOf (n .rate)) .0 in
+      let s = sending (n .bits) (n .rate) some-bits few-bits (range-low (power 0) (power 50) (n .rate) (f .rate)) (range-high (power 0) (power 50) (n .rate) (f .rate)) in
+      le-trans zeroF (fin false 1 (negsuc 49)) q (unfold le in tt) (s .1)

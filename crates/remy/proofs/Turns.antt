@@ -1,0 +1,180 @@
+-- The turns of a sender and of a toggler keep what a simulation keeps, and so does every tick. Assumes nothing.
+use mathlib.Core.Path.{_≡_, refl, sym, ap, subst, _∙_}
+use mathlib.Core.Bool.{Bool, true, false, not, _&&_, cond}
+use mathlib.Core.List.{List, [], _∷_, _++_}
+use Prim.Native.Nat.{ℕ, zero, suc, _+_, _-_, _/_, _%_, _≤_, _<_}
+use borrow.Author.Tests.{eqb-true, ltb-true}
+use lib.Dec.{T, leb, ltb, eqb}
+use lib.ListN.{set}
+use lib.Ieee.{lt, le}
+use Rattle.quantities.specs.declared.time.Time.{Time}
+use Rattle.quantities.specs.Doubles.{zeroF, power}
+use Rattle.quantities.specs.Units.{spanOf}
+use Rattle.quantities.proofs.Order.{lt→le}
+use Rattle.rand.specs.Draws.{PositiveDraw, positiveOf}
+use Rattle.components.specs.declared.packet.Packet.{Packet}
+use Rattle.components.specs.declared.link.Arrival.{Arrival}
+use Rattle.components.specs.declared.lossy.Enabled.{Enabled}
+use Rattle.components.specs.declared.lossy.SenderState.{SenderState}
+use Rattle.components.specs.declared.lossy.SenderState.the-variants as State
+use Rattle.components.specs.declared.lossy.Sent.{Sent}
+use Rattle.components.specs.declared.lossy.TimerSet.{TimerSet}
+use Rattle.components.specs.declared.toggler.Toggler.{Toggler}
+use Rattle.components.specs.declared.toggler.Toggled.{Toggled}
+use Rattle.components.specs.Ring.{places, placeAfter}
+use Rattle.components.specs.NewTime.{TimeAnswer, newTime}
+use Rattle.components.specs.Link.{admits, admitted, receiveOf}
+use Rattle.components.specs.Sender.{windowSent, timerSent, timerDue, tickTimer, notSent, tickSend, enabledOf, disabledOf}
+use Rattle.components.specs.Sender.{sendWith as sentWith}
+use Rattle.components.specs.Toggler.{toggleOf}
+use Rattle.remy.specs.declared.simulation.Next.{Next}
+use Rattle.remy.specs.declared.simulation.Next.the-variants as Next
+use Rattle.remy.specs.declared.simulation.Simulation.{Simulation}
+use Rattle.remy.specs.declared.simulation.Mark.the-variants as Mark
+use Rattle.remy.specs.declared.simulation.Name.the-variants as Name
+use Rattle.remy.specs.declared.simulation.TickRecord.{TickRecord}
+use Rattle.remy.specs.declared.simulation.Ticked.{Ticked}
+use Rattle.remy.specs.State.{Role, link, sender, toggler, nobody, roleOf, senderAt, togglerAt, packetBits, withLine, withWaiting, withSender, withToggler}
+use Rattle.remy.specs.Queue.{requeue, picked}
+use Rattle.remy.specs.Fit.{fit}
+use Rattle.remy.specs.Tick.{named, recordAt, marked, Message, arrives, switches, Acted, stopped, enabledSender, timerWith, sendWith, senderWith, senderActs, togglerWith, togglerActs, actsOf, Outcome, moves, stops, arriveWith, switchedSender, switchWith, deliver, pickAgain, outcomeWith, outcomeOf}
+use Rattle.remy.specs.History.{PacketId, Entry}
+use Rattle.remy.proofs.Lines.{entryAt}
+use Rattle.remy.proofs.Plain.{Plain, PlainIfAny}
+use Rattle.remy.proofs.Facts.{FitState, fit-state}
+use Rattle.remy.proofs.Networks.{FitNetwork, few-senders}
+use Rattle.remy.proofs.Kept.{PlainTimer, Kept, kept-lists, keep-sender, keep-toggler, count-sent}
+use Rattle.remy.proofs.Front.{accepted}
+use Rattle.remy.proofs.Steps.{cond-elim, keep-requeue, keep-picked}
+use Rattle.remy.proofs.Parts.{new-plain, sent-plain, timer-plain, draw-positive, keep-arrive, keep-switch}
+use Rattle.remy.proofs.Outcomes.{OnMoves, Grown, same, on-picked, on-stopped, link-good}
+
+module _ {adm sts lvs snd : List Entry} {cnt : List PacketId} {s : Simulation} (f : FitState s) (early : lt (power 40) (s .head .clock .0 .0) ≡ false)
+    (k : Kept (s .network) adm sts lvs snd cnt s) where
+  abbrev Good : TickRecord → Simulation → Type 0
+  Good = Grown (s .network) adm sts lvs snd cnt
+
+  keep-good : (r : TickRecord) (m : Simulation) → Good r m → Good r (picked m)
+  keep-good r m g = keep-picked g
+
+  ok : FitNetwork (s .network)
+  ok = accepted s f
+
+  -- ---- a sender's turn
+  module _ (i : ℕ) (h : i < s .network .senders) where
+    -- the packet that it sends, and the record so far
+    next : Packet
+    next = record { sender = i; seq = senderAt s i .«packets_sent» + 1; «sent_time» = s .head .clock }
+
+    -- the state after the send, with the sender queued again
+    module _ (e : Enabled) (plain : PlainIfAny (e .timer)) where
+      after-send : Simulation
+      after-send = requeue (withSender s i (enabledSender (senderAt s i) (senderAt s i .«packets_sent» + 1) e)) (sender i)
+
+      sent-kept : Kept (s .network) adm sts lvs (snd ++ (entryAt (s .head .clock) next ∷ [])) cnt after-send
+      unfolding after-send next
+      sent-kept = keep-requeue (count-sent k i (enabledSender (senderAt s i) (senderAt s i .«packets_sent» + 1) e) (s .head .clock) h (few-senders ok) refl plain) (sender i)
+
+      -- admitted, dropped full, or refused
+      arrival-good : OnMoves Good (pickAgain (deliver (recordAt s (sender i) Mark.None (named next) Name.None) after-send (arrives next)))
+      unfolding deliver receiveOf after-send next requeue
+      arrival-good =
+          let st = after-send in
+          let r = recordAt s (sender i) Mark.None (named next) Name.None in
+          let dropped : Arrival = record { number = 0; admitted = false; line = st .line } in
+          let taken : Arrival = record { number = 0; admitted = true; line = admitted (st .line) (packetBits (s .network) next) } in
+          let full : Arrival = record { number = 12; admitted = false; line = st .line } in
+          cond-elim (λ (a : Arrival). OnMoves Good (pickAgain (arriveWith r st next a))) (admits (s .network .limit) (st .line .«buffer_contains») (packetBits (s .network) next))
+          (cond (leb places (st .line .waiting .count)) full taken) dropped
+          (λ fits. cond-elim (λ (a : Arrival). OnMoves Good (pickAgain (arriveWith r st next a))) (leb places (st .line .waiting .count)) full taken
+          (λ none. tt)
+          (λ room. kept-lists refl (same sts) (same lvs) refl (same cnt) (keep-picked (keep-requeue (keep-arrive sent-kept ok next room fits) link))))
+          (λ over. kept-lists (same adm) (same sts) (same lvs) refl (same cnt) (keep-picked (keep-requeue sent-kept link)))
+
+    turn-with : (x : SenderState) → senderAt s i .state ≡ x → OnMoves Good (outcomeWith (sender i) (senderWith s i x))
+    unfolding tickSend next after-send
+    turn-with State.WaitingForEnable q = tt
+    turn-with (State.Enabled e) q =
+        let plain : PlainIfAny (e .timer) = subst PlainTimer q (k .timer i) in
+        let policy = s .network .policy in
+        let clock = s .head .clock in
+        let sent = senderAt s i .«packets_sent» in
+        let t = tickTimer policy e clock in
+        let set = timerSent policy (e .timer) clock in
+        cond-elim (λ (a : Acted). OnMoves Good (outcomeWith (sender i) a)) (timerDue e clock) (timerWith s i t) (sendWith s i (tickSend sent policy e clock i))
+        (λ due. cond-elim (λ (a : Acted). OnMoves Good (outcomeWith (sender i) a)) (eqb (t .number) 0)
+        (record { number = 0; note = recordAt s (sender i) Mark.Timer Name.None Name.None; simulation = withSender s i (enabledSender (senderAt s i) sent (t .enabled)); messages = [] })
+        (stopped s (t .number))
+        (λ z. kept-lists (same adm) (same sts) (same lvs) (same snd) (same cnt)
+        (keep-picked (keep-requeue (keep-sender k i (enabledSender (senderAt s i) sent (t .enabled)) refl (timer-plain policy e clock (ok .policy) (k .clock) (eqb-true (t .number) 0 z))) (sender i))))
+        (λ z. on-stopped Good (sender i) s (t .number) z))
+        (λ due. cond-elim (λ (a : Sent). OnMoves Good (outcomeWith (sender i) (sendWith s i a))) (leb 16777216 sent) (notSent sent e clock i 11) (sentWith sent policy e clock i set)
+        (λ spent. tt)
+        (λ room. cond-elim (λ (a : Sent). OnMoves Good (outcomeWith (sender i) (sendWith s i a))) (eqb (set .number) 0)
+        (record {
+          number = 0;
+          packet = next;
+          «packets_sent» = sent + 1;
+          enabled = record { started = e .started; «greatest_ack» = e .«greatest_ack»; cwnd = windowSent policy (e .cwnd); timer = set .timer };
+        })
+        (notSent sent e clock i (set .number))
+        (λ z. arrival-good (record { started = e .started; «greatest_ack» = e .«greatest_ack»; cwnd = windowSent policy (e .cwnd); timer = set .timer }) (sent-plain policy (e .timer) clock (ok .policy) (k .clock) plain))
+        (λ z. rw z (on-stopped Good (sender i) s (set .number) z))))
+
+    pub sender-good : OnMoves Good (outcomeOf s (sender i))
+    unfolding outcomeOf actsOf senderActs
+    sender-good = turn-with (senderAt s i .state) refl
+
+  -- ---- a toggler's turn
+  module _ (i : ℕ) where
+    -- the sender and its meter are switched
+    switch-good : (st : Simulation) (on : Bool) → Kept (s .network) adm sts lvs snd cnt st
+        → OnMoves Good (pickAgain (switchWith (recordAt s (toggler i) Mark.None Name.None Name.None) st i on))
+    unfolding enabledOf disabledOf
+    switch-good st true q =
+        kept-lists (same adm) (same sts) (same lvs) (same snd) (same cnt)
+        (keep-picked (keep-requeue (keep-switch (keep-sender q i (switchedSender st i true) refl tt) i true) (sender i)))
+    switch-good st false q =
+        kept-lists (same adm) (same sts) (same lvs) (same snd) (same cnt)
+        (keep-picked (keep-requeue (keep-switch (keep-sender q i (switchedSender st i false) refl tt) i false) (sender i)))
+
+    pub toggler-good : OnMoves Good (outcomeOf s (toggler i))
+    unfolding outcomeOf actsOf togglerActs toggleOf deliver
+    toggler-good =
+        let t = togglerAt s i in
+        let clock = s .head .clock in
+        let d = positiveOf (cond (not (t .enabled)) (s .network .on) (s .network .off)) (t .rng) in
+        let at = newTime clock (spanOf (d .value)) in
+        let changed : Toggler = record { enabled = not (t .enabled); «next_toggle» = at .time; rng = d .rng } in
+        cond-elim (λ (x : Toggled). OnMoves Good (outcomeWith (toggler i) (togglerWith s i x))) (eqb (d .number) 0)
+        (cond (eqb (at .number) 0) (record { number = 0; toggler = changed }) (record { number = at .number; toggler = t }))
+        (record { number = d .number; toggler = t })
+        (λ drawn. cond-elim (λ (x : Toggled). OnMoves Good (outcomeWith (toggler i) (togglerWith s i x))) (eqb (at .number) 0)
+        (record { number = 0; toggler = changed }) (record { number = at .number; toggler = t })
+        (λ fine. switch-good (requeue (withToggler s i changed) (toggler i)) (not (t .enabled))
+        (keep-requeue
+        (keep-toggler k i changed
+        (new-plain clock (spanOf (d .value)) (k .clock)
+        (lt→le zeroF (d .value) (draw-positive 8 (cond (not (t .enabled)) (s .network .on) (s .network .off)) (t .rng) (eqb-true (d .number) 0 drawn))) (eqb-true (at .number) 0 fine)))
+        (toggler i)))
+        (λ refused. rw refused (on-stopped Good (toggler i) s (at .number) refused)))
+        (λ spent. rw spent (on-stopped Good (toggler i) s (d .number) spent))
+
+  -- ---- every turn
+
+  nobody-good : OnMoves Good (outcomeOf s nobody)
+  unfolding outcomeOf actsOf
+  nobody-good = tt
+
+  pub turn-good : (j : ℕ) → OnMoves Good (outcomeOf s (roleOf (s .network .senders) j))
+  unfolding roleOf
+  turn-good j =
+      let i = (j - 1) / 2 in
+      let there = cond (eqb (j % 2) 1) (sender i) (toggler i) in
+      cond-elim (λ (role : Role). OnMoves Good (outcomeOf s role)) (eqb j 0) link (cond (ltb i (s .network .senders)) there nobody)
+      (λ first. link-good f early k)
+      (λ other. cond-elim (λ (role : Role). OnMoves Good (outcomeOf s role)) (ltb i (s .network .senders)) there nobody
+      (λ inside. cond-elim (λ (role : Role). OnMoves Good (outcomeOf s role)) (eqb (j % 2) 1) (sender i) (toggler i)
+      (λ odd. sender-good i (ltb-true i (s .network .senders) inside))
+      (λ even. toggler-good i))
+      (λ outside. nobody-good))

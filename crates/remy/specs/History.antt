@@ -1,0 +1,144 @@
+-- Document 01, "Tick and history": the calls, the history, and the lists that the account reads in it. Definitions only.
+use Prim.Native.Nat.{ℕ}
+use mathlib.Core.Path.{_≡_}
+use mathlib.Core.Bool.{Bool, true, false, _||_, cond}
+use mathlib.Core.List.{List, [], _∷_, map}
+use lib.Dec.{eqb}
+use Rattle.quantities.specs.declared.time.Time.{Time}
+use Rattle.components.specs.declared.packet.Packet.{Packet}
+use Rattle.remy.specs.declared.network.RemyNetwork.{RemyNetwork}
+use Rattle.remy.specs.declared.simulation.Simulation.{Simulation}
+use Rattle.remy.specs.declared.simulation.Mark.{Mark}
+use Rattle.remy.specs.declared.simulation.Mark.the-variants as Mark
+use Rattle.remy.specs.declared.simulation.Name.{Name}
+use Rattle.remy.specs.declared.simulation.Name.the-variants as Name
+use Rattle.remy.specs.declared.simulation.TickRecord.{TickRecord}
+use Rattle.remy.specs.declared.simulation.Ticked.{Ticked}
+use Rattle.remy.specs.Build.{buildOf}
+use Rattle.remy.specs.Tick.{tickOf}
+
+-- ---- calls
+
+-- what can be asked of a simulation
+pub data Call : Type 0 where
+  tick : Call
+
+abbrev pub called : Call → Simulation → Ticked
+called tick s = tickOf s
+
+-- the state after the calls, each given the state that the one before it returned, refused and idle ones included
+abbrev pub after : List Call → Simulation → Simulation
+after [] s = s
+after (c ∷ cs) s = after cs (called c s .simulation)
+
+-- The history is the records of ticks that moved since the build.
+abbrev pub noted : Ticked → List TickRecord → List TickRecord
+noted t h = cond (t .moved) (t .note ∷ h) h
+
+abbrev pub history : List Call → Simulation → List TickRecord
+history [] s = []
+history (c ∷ cs) s = noted (called c s) (history cs (called c s .simulation))
+
+-- Fresh is the state that an unrefused build returned.
+abbrev pub Fresh : RemyNetwork → Simulation → Type 0
+Fresh n s = (seed : ℕ) × (buildOf n seed ≡ record { number = 0; simulation = s })
+
+-- ---- packets in a history
+
+-- a packet by its sender and number
+pub record PacketId : Type 0 where
+  pub sender : ℕ
+  pub seq : ℕ
+
+abbrev pub idOf : Packet → PacketId
+idOf p = record { sender = p .sender; seq = p .seq }
+
+-- a time, a sender and a number
+pub record Entry : Type 0 where
+  pub time : Time
+  pub packet : PacketId
+
+abbrev pub ids : List Entry → List PacketId
+ids es = map (λ e. e .packet) es
+
+abbrev pub times : List Entry → List Time
+times es = map (λ e. e .time) es
+
+-- the entry of a packet that a record names, if it does
+abbrev pub entryIf : Bool → Time → Name → List Entry → List Entry
+entryIf false t name es = es
+entryIf true t Name.None es = es
+entryIf true t (Name.Packet i m) es = record { time = t; packet = record { sender = i; seq = m } } ∷ es
+
+-- the packets that the records with certain marks are about, each at its record's time
+abbrev pub entries : (Mark → Bool) → List TickRecord → List Entry
+entries f [] = []
+entries f (r ∷ rs) = entryIf (f (r .mark)) (r .time) (r .packet) (entries f rs)
+
+-- ---- marks: the letters of document 01
+
+-- E on, D off, T timer, S sent and admitted, F sent and dropped full, L lost, C counted, O old, I ignored, - none, each by its ASCII code
+abbrev pub letterOf : Mark → ℕ
+letterOf Mark.None = 45
+letterOf Mark.Enabled = 69
+letterOf Mark.Disabled = 68
+letterOf Mark.Timer = 84
+letterOf Mark.Sent = 83
+letterOf Mark.Full = 70
+letterOf Mark.Lost = 76
+letterOf Mark.Counted = 67
+letterOf Mark.Old = 79
+letterOf Mark.Ignored = 73
+
+abbrev pub isS : Mark → Bool
+isS m = eqb (letterOf m) 83
+
+abbrev pub isF : Mark → Bool
+isF m = eqb (letterOf m) 70
+
+abbrev pub isL : Mark → Bool
+isL m = eqb (letterOf m) 76
+
+abbrev pub isC : Mark → Bool
+isC m = eqb (letterOf m) 67
+
+abbrev pub isO : Mark → Bool
+isO m = eqb (letterOf m) 79
+
+abbrev pub isI : Mark → Bool
+isI m = eqb (letterOf m) 73
+
+-- ---- what the account reads in a history
+
+-- packets sent: in an S or F record
+abbrev pub sends : List TickRecord → List Entry
+sends h = entries (λ m. isS m || isF m) h
+
+-- A packet is admitted in its S record,
+abbrev pub admissions : List TickRecord → List Entry
+admissions h = entries isS h
+
+-- starts in the record naming it as started
+abbrev pub starts : List TickRecord → List Entry
+starts [] = []
+starts (r ∷ rs) = entryIf true (r .time) (r .started) (starts rs)
+
+-- and leaves in its L, C, O or I record, each at that record's time.
+abbrev pub leaves : List TickRecord → List Entry
+leaves h = entries (λ m. isL m || (isC m || (isO m || isI m))) h
+
+-- dropped full, lost, counted, old and ignored: the F, L, C, O and I marks
+abbrev pub droppedFull : List TickRecord → List PacketId
+droppedFull h = ids (entries isF h)
+
+abbrev pub lost : List TickRecord → List PacketId
+lost h = ids (entries isL h)
+
+abbrev pub counted : List TickRecord → List PacketId
+counted h = ids (entries isC h)
+
+abbrev pub old : List TickRecord → List PacketId
+old h = ids (entries isO h)
+
+abbrev pub ignored : List TickRecord → List PacketId
+ignored h = ids (entries isI h)
