@@ -265,7 +265,7 @@ def script():
         put("M")
     title("random calls")
     draw = random.Random(1)
-    for _ in range(20):
+    for _ in range(12):
         put("N")
         time, on = 0.0, False
         for _ in range(12):

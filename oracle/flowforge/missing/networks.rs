@@ -1,0 +1,3 @@
+//! Stand-in for `networks`.
+
+pub mod remy;

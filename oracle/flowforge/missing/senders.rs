@@ -1,0 +1,3 @@
+//! Stand-in for `components::senders`.
+
+pub mod lossy;

@@ -1,0 +1,375 @@
+//! Builds and runs a described network with FlowForge's own code, and finds document 01's stops.
+//!
+//! The Rust knows none of the stops. Those that show in the held state are read from it, before
+//! the tick or after it; spent draws unwind out of the tick (`rand_distr`). After a refused tick
+//! the simulation is of no more use, so it is built anew and run up to that tick: this is the
+//! state that the refusal leaves as it was.
+
+use std::panic::{catch_unwind, resume_unwind, AssertUnwindSafe};
+
+use generativity::{with_guard, Guard};
+use rand_distr::{limit_tries, Spent};
+use text::{
+    description::{two_to, Description, Distribution},
+    held::{Held, Packet, Sender},
+    lines::{End, Flow, Name, Record},
+};
+
+use crate::{
+    effect::{arrived_at_senders, Effects},
+    look::{Part, Simulation, View},
+    networks::remy::RemyNetwork,
+    policy::Policy,
+    quantities::{bits_per_second, bytes, packets, seconds, Information, TimeSpan},
+    simulation::SimulatorBuilder,
+    util::{
+        logging::NothingLogger,
+        meters::AverageFlowMeter,
+        rand::{ContinuousDistribution, PositiveContinuousDistribution, Rng},
+    },
+    Network,
+};
+
+/// Packets that may wait, and packets that may be on the line.
+const PLACES: usize = 512;
+const MOST_SENT: u64 = 1 << 24;
+
+/// Runs a description whose ranges are fit. `watch` is shown the built state, then for each tick
+/// its record if it moved and the state after it. The error is the number of a refused build.
+pub fn play(
+    description: &Description,
+    watch: &mut dyn FnMut(Option<&Record>, &Held),
+) -> Result<End, u8> {
+    let first = session(description, description.ticks, watch)?;
+    if first.number == 0 {
+        return Ok(first.end());
+    }
+    let restored = session(description, first.moved, &mut |_, _| ())?;
+    assert_eq!(restored.held, first.held, "a replay that differs");
+    watch(None, &restored.held);
+    Ok(End {
+        number: first.number,
+        ..restored.end()
+    })
+}
+
+/// How a session ended; after a refused tick, the state before it and no flows.
+struct Ended {
+    moved: u32,
+    number: u8,
+    held: Held,
+    flows: Vec<Flow>,
+}
+
+impl Ended {
+    fn end(self) -> End {
+        End {
+            number: self.number,
+            clock: self.held.clock,
+            flows: self.flows,
+        }
+    }
+}
+
+fn session(
+    description: &Description,
+    ticks: u32,
+    watch: &mut dyn FnMut(Option<&Record>, &Held),
+) -> Result<Ended, u8> {
+    if packets(1).bits() != description.bits {
+        // SAFETY: the oracle has one thread, and it runs no simulation here.
+        unsafe { crate::PACKET_BITS = description.bits };
+    }
+    assert_eq!(
+        packets(1).bits(),
+        description.bits,
+        "the published files have one packet size"
+    );
+    with_guard(|guard| run(guard, description, ticks, watch))
+}
+
+fn run(
+    guard: Guard<'_>,
+    description: &Description,
+    ticks: u32,
+    watch: &mut dyn FnMut(Option<&Record>, &Held),
+) -> Result<Ended, u8> {
+    let kind = description.policy;
+    let make_policy = move || Policy::new(kind);
+    let mut rng = Rng::from_seed(description.seed);
+    let root = &mut rng;
+    let builder = SimulatorBuilder::new(guard);
+    let filled = unless_spent(|| {
+        Network::<Effects>::populate_sim(
+            &network(description),
+            &builder,
+            make_policy,
+            root,
+            AverageFlowMeter::new_disabled,
+        );
+    });
+    filled.map_err(|Stopped(number)| number)?;
+    let simulation = builder.build(NothingLogger).expect("every slot is filled");
+    let mut running = Running {
+        simulation,
+        make_policy,
+    };
+
+    let mut held = running.view().held();
+    watch(None, &held);
+    let mut moved = 0;
+    while moved < ticks {
+        match running.tick(&held) {
+            Tick::Moved(record, after) => {
+                watch(Some(&record), &after);
+                held = after;
+                moved += 1;
+            }
+            Tick::Idle => {
+                watch(None, &held);
+                break;
+            }
+            Tick::Refused(number) => {
+                return Ok(Ended {
+                    moved,
+                    number,
+                    held,
+                    flows: vec![],
+                });
+            }
+        }
+    }
+    let flows = running.flows(&held);
+    Ok(Ended {
+        moved,
+        number: 0,
+        held,
+        flows,
+    })
+}
+
+fn network(description: &Description) -> RemyNetwork {
+    RemyNetwork {
+        rtt: seconds(description.delay),
+        packet_rate: bits_per_second(description.rate),
+        loss_rate: description.loss,
+        buffer_size: description.limit.map(amount),
+        num_senders: description.senders,
+        off_time: distribution(description.off),
+        on_time: distribution(description.on),
+    }
+}
+
+fn distribution(distribution: Distribution) -> PositiveContinuousDistribution<TimeSpan> {
+    PositiveContinuousDistribution(match distribution {
+        Distribution::Always(value) => ContinuousDistribution::Always {
+            value: seconds(value),
+        },
+        Distribution::Uniform(min, max) => ContinuousDistribution::Uniform {
+            min: seconds(min),
+            max: seconds(max),
+        },
+    })
+}
+
+/// An amount of so many bits. The published amount counts bytes, and rounding a limit down to
+/// bytes changes no admission: what is compared with it is whole packets of 1,400 bytes.
+fn amount(bits: u64) -> Information {
+    let one = packets(1);
+    bytes(bits / (one.bits() / one.bytes()))
+}
+
+/// A simulation that `populate_sim` filled, with policies made by `make_policy`.
+struct Running<'sim, 'a, G> {
+    simulation: Simulation<'sim, 'a>,
+    make_policy: G,
+}
+
+enum Tick {
+    Moved(Record, Held),
+    Idle,
+    Refused(u8),
+}
+
+impl<'sim: 'a, 'a, G: Fn() -> Policy + 'a> Running<'sim, 'a, G> {
+    fn view(&self) -> View<'_, 'sim, 'a, G> {
+        // SAFETY: `populate_sim` filled this simulation with a `G`.
+        unsafe { View::new(&self.simulation, &self.make_policy) }
+    }
+
+    /// One tick; `before` is the state that it begins at.
+    fn tick(&mut self, before: &Held) -> Tick {
+        let Some(part) = before.next else {
+            let moved = self.simulation.tick();
+            assert!(!moved, "an idle simulation moved");
+            return Tick::Idle;
+        };
+        if let Some(number) = refused_before(before, Part::of(part)) {
+            return Tick::Refused(number);
+        }
+        let arrived = arrived_at_senders();
+        let ticked = match Part::of(part) {
+            Part::Toggler(_) => unless_spent(|| self.simulation.tick()),
+            // A link's sample is no positive draw: 0 is one of its values.
+            Part::Link | Part::Sender(_) => Ok(self.simulation.tick()),
+        };
+        match ticked {
+            Ok(moved) => assert!(moved, "a simulation with a next part did not move"),
+            Err(Stopped(number)) => return Tick::Refused(number),
+        }
+        let after = self.view().held();
+        if let Some(number) = refused_after(before, &after, Part::of(part)) {
+            return Tick::Refused(number);
+        }
+        let record = record(before, &after, part, arrived_at_senders() > arrived);
+        Tick::Moved(record, after)
+    }
+
+    /// Each meter read at the clock.
+    fn flows(&self, held: &Held) -> Vec<Flow> {
+        let view = self.view();
+        let read = |(i, sender): (usize, &Sender)| {
+            let properties = view
+                .meter(i)
+                .average_properties(self.simulation.time())
+                .ok();
+            Flow {
+                sent: sender.sent,
+                counted: sender.meter.records,
+                rate: properties
+                    .as_ref()
+                    .map(|flow| flow.throughput.bits_per_second()),
+                rtt: properties
+                    .and_then(|flow| flow.rtt.ok())
+                    .map(|rtt| rtt.seconds()),
+            }
+        };
+        held.senders.iter().enumerate().map(read).collect()
+    }
+}
+
+/// A stop's number.
+struct Stopped(u8);
+
+/// Stop 8, if the draws of `work` are spent. Any other panic goes on: it is a fault.
+fn unless_spent<T>(work: impl FnOnce() -> T) -> Result<T, Stopped> {
+    catch_unwind(AssertUnwindSafe(|| limit_tries(work))).map_err(|payload| {
+        if payload.is::<Spent>() {
+            Stopped(8)
+        } else {
+            resume_unwind(payload)
+        }
+    })
+}
+
+/// Stops that show before the tick: 10 and 11.
+fn refused_before(before: &Held, part: Part) -> Option<u8> {
+    if before.clock > two_to(40) {
+        return Some(10);
+    }
+    if let Part::Sender(i) = part {
+        let timer = before.senders[i].enabled.as_ref().and_then(|on| on.timer);
+        let sends = timer != Some(before.clock);
+        if sends && before.senders[i].sent >= MOST_SENT {
+            return Some(11);
+        }
+    }
+    None
+}
+
+/// Stops that show in what the tick did, in the order in which it would meet them: the Rust takes
+/// a 513th packet and any time.
+fn refused_after(before: &Held, after: &Held, part: Part) -> Option<u8> {
+    let unfit = |time: f64| !(before.clock <= time && time.is_finite());
+    let first =
+        |stops: [(bool, u8); 2]| stops.into_iter().find(|(holds, _)| *holds).map(|(_, n)| n);
+    match part {
+        Part::Link => {
+            let started = after.link.waiting.len() < before.link.waiting.len();
+            let due = after.link.line.last().map_or(before.clock, |last| last.due);
+            first([
+                (after.link.line.len() > PLACES, 13),
+                (started && (unfit(after.link.earliest) || unfit(due)), 14),
+            ])
+        }
+        Part::Sender(i) => {
+            let timer = after.senders[i].enabled.as_ref().and_then(|on| on.timer);
+            first([
+                (timer.is_some_and(unfit), 14),
+                (after.link.waiting.len() > PLACES, 12),
+            ])
+        }
+        Part::Toggler(i) => unfit(after.togglers[i].next_toggle).then_some(14),
+    }
+}
+
+/// What the tick did, as the states around it and the messages show. `arrived`: a packet reached
+/// a sender.
+fn record(before: &Held, after: &Held, part: usize, arrived: bool) -> Record {
+    let name = |packet: &Packet| Name {
+        sender: packet.sender,
+        sequence: packet.sequence,
+    };
+    let mut started = None;
+    let (mark, packet) = match Part::of(part) {
+        Part::Link => {
+            let (was, is) = (&before.link, &after.link);
+            started = (is.waiting.len() < was.waiting.len()).then(|| name(&was.waiting[0]));
+            let left = is.line.len() < was.line.len() + usize::from(started.is_some());
+            match left.then(|| &was.line[0].packet) {
+                None => ('-', None),
+                Some(packet) => (
+                    left_mark(before, after, packet, arrived),
+                    Some(name(packet)),
+                ),
+            }
+        }
+        Part::Sender(i) => {
+            let sequence = after.senders[i].sent;
+            if sequence == before.senders[i].sent {
+                ('T', None)
+            } else {
+                let admitted = after.link.waiting.len() > before.link.waiting.len();
+                (
+                    if admitted { 'S' } else { 'F' },
+                    Some(Name {
+                        sender: i,
+                        sequence,
+                    }),
+                )
+            }
+        }
+        Part::Toggler(i) => (
+            if after.senders[i].enabled.is_some() {
+                'E'
+            } else {
+                'D'
+            },
+            None,
+        ),
+    };
+    Record {
+        time: before.clock,
+        part,
+        mark,
+        packet,
+        started,
+    }
+}
+
+/// The mark of a packet that left the line.
+fn left_mark(before: &Held, after: &Held, packet: &Packet, arrived: bool) -> char {
+    let (was, is) = (
+        &before.senders[packet.sender],
+        &after.senders[packet.sender],
+    );
+    if !arrived {
+        'L'
+    } else if is.meter.records > was.meter.records {
+        'C'
+    } else if was.enabled.is_some() {
+        'O'
+    } else {
+        'I'
+    }
+}

@@ -1,0 +1,116 @@
+//! The oracle: what FlowForge's published code answers, in document 01's text (README.md, FORM.md).
+
+use std::io::{self, Read, Write};
+use std::process::ExitCode;
+
+use text::{description::Description, held::Held, lines::End, lines::Record};
+
+/// The one packet size of the published files.
+const PUBLISHED_BITS: u64 = 11_200;
+
+/// What is shown of each held state.
+#[derive(Clone, Copy)]
+enum States {
+    None,
+    Lines,
+    Digests,
+}
+
+fn main() -> ExitCode {
+    let arguments: Vec<String> = std::env::args().skip(1).collect();
+    let words: Vec<&str> = arguments.iter().map(String::as_str).collect();
+    let (mode, always_patched) = match words[..] {
+        [mode] => (mode, false),
+        [mode, "--patched"] => (mode, true),
+        _ => return usage(),
+    };
+    let done = match mode {
+        "run" => describe(States::None, always_patched),
+        "held" => describe(States::Lines, always_patched),
+        "digest" => describe(States::Digests, always_patched),
+        "meters" => meters(),
+        _ => return usage(),
+    };
+    match done {
+        Ok(()) => ExitCode::SUCCESS,
+        Err(error) => {
+            eprintln!("oracle: {error}");
+            ExitCode::from(2)
+        }
+    }
+}
+
+fn usage() -> ExitCode {
+    eprintln!("usage: oracle run|held|digest [--patched] < description");
+    eprintln!("       oracle meters < script");
+    ExitCode::from(2)
+}
+
+fn describe(states: States, always_patched: bool) -> io::Result<()> {
+    let mut text = Vec::new();
+    // One byte more than the reader takes, so that a longer text is seen to be longer.
+    io::stdin().take(4097).read_to_end(&mut text)?;
+    let mut out = io::BufWriter::new(io::stdout().lock());
+    let Some(description) = Description::read(&text) else {
+        return writeln!(out, "stop=15");
+    };
+    if let Some(number) = description.refused() {
+        return writeln!(out, "stop={number}");
+    }
+    let mut shown = Ok(());
+    let ended = play(&description, always_patched, &mut |record, held| {
+        if shown.is_ok() {
+            shown = show(&mut out, states, record, held);
+        }
+    });
+    shown?;
+    match ended {
+        Ok(end) => write!(out, "{end}"),
+        Err(number) => writeln!(out, "stop={number}"),
+    }
+}
+
+/// The published files as they are where they can be, the patched copy for any other packet size.
+fn play(
+    description: &Description,
+    always_patched: bool,
+    watch: &mut dyn FnMut(Option<&Record>, &Held),
+) -> Result<End, u8> {
+    if description.bits == PUBLISHED_BITS && !always_patched {
+        published::session::play(description, watch)
+    } else {
+        patched::session::play(description, watch)
+    }
+}
+
+fn show(
+    out: &mut impl Write,
+    states: States,
+    record: Option<&Record>,
+    held: &Held,
+) -> io::Result<()> {
+    if let Some(record) = record {
+        writeln!(out, "{record}")?;
+    }
+    match states {
+        States::None => Ok(()),
+        States::Lines => writeln!(out, "{}", held.line()),
+        States::Digests => writeln!(out, "digest {:016x}", fnv_1a(held.line().as_bytes())),
+    }
+}
+
+/// FNV-1a, 64 bits.
+fn fnv_1a(bytes: &[u8]) -> u64 {
+    bytes.iter().fold(0xcbf2_9ce4_8422_2325, |hash, byte| {
+        (hash ^ u64::from(*byte)).wrapping_mul(0x0000_0100_0000_01b3)
+    })
+}
+
+/// The patched copy answers, since there an amount counts bits.
+fn meters() -> io::Result<()> {
+    let mut script = String::new();
+    io::stdin().read_to_string(&mut script)?;
+    let answers = patched::meter_script::answer(&script)
+        .map_err(|line| io::Error::other(format!("can't read the line `{}`", line.0)))?;
+    io::stdout().write_all(answers.as_bytes())
+}
