@@ -1,7 +1,7 @@
 -- The proofs of the points.
 pub mod Claims
-pub mod Opened
 pub mod Points
 pub mod Ranges
 pub mod Worked
 pub mod Unfit
+pub mod Counted

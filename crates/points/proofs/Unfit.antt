@@ -10,7 +10,7 @@ use Rattle.points.specs.Points.{Hold}
 use Rattle.points.specs.Worked.{workedAfter}
 use Rattle.points.specs.Unfit.{network, row, rows, allPass, busy, quiet, unfit}
 use Rattle.points.proofs.Claims.{_and_}
-use Rattle.points.proofs.Opened.{fitting, ticking}
+use Rattle.remy.proofs.Opened.{fitting, ticking}
 
 -- the tests one by one, and as they lie in the clauses
 regrouped : (p : ℕ → Bool)

@@ -3,7 +3,7 @@ use mathlib.Core.Path.{refl}
 use Rattle.points.specs.Points.{Hold}
 use Rattle.points.specs.Worked.{ticksOf, workedAfter, example, noDelay}
 use Rattle.points.proofs.Claims.{_and_}
-use Rattle.points.proofs.Opened.{ticking}
+use Rattle.remy.proofs.Opened.{ticking}
 
 pub example-holds : Hold example
 unfolding ticking ticksOf workedAfter

@@ -1,4 +1,6 @@
--- Laws of the definitions, and the proof of demand 3.
+-- Examples that are computed, laws of the definitions, and the proof of demand 3.
+pub mod Opened
+pub mod Examples
 pub mod Lists
 pub mod Lines
 pub mod Plain
