@@ -1,0 +1,37 @@
+-- `builder::state::fresh` meets its contract: it is the literal of the definition. Assumes nothing.
+use lib.Ieee.{ofBits}
+use borrow.Author.Needs.{needs}
+use Rattle.builder.proofs.state.fresh.Statement.{statement}
+use Rattle.builder.proofs.state.fresh.Tie as tie
+
+new-line-requires : tie.Need-new-line-requires
+new-line-requires c κs = search needs
+
+blank-packet-requires : tie.Need-blank-packet-requires
+blank-packet-requires c κs = search needs
+
+blank-transit-requires : tie.Need-blank-transit-requires
+blank-transit-requires c κs = search needs
+
+new-disabled-requires : tie.Need-new-disabled-requires
+new-disabled-requires c κs = search needs
+
+returns : tie.Need-returns
+unfolding ofBits
+returns c =
+    rw (
+      c .new-disabled .ensures,
+      c .before .blank-transit .ensures,
+      c .before .before .blank-packet .ensures,
+      c .before .before .before .new-line .ensures,
+    )
+
+pub fresh-spec : {M : Type 1} → statement M
+fresh-spec =
+    tie.close
+    (tie.spec
+    new-line-requires
+    blank-packet-requires
+    blank-transit-requires
+    new-disabled-requires
+    returns)

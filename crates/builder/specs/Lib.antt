@@ -1,0 +1,3 @@
+-- The definitions that the contracts of helpers cite.
+pub mod Parts
+pub mod Times

@@ -1,0 +1,13 @@
+-- The parts that the code makes, as those of the build's definition. Definitions only.
+use mathlib.Core.List.{List}
+use Rattle.components.specs.declared.lossy.LossySender.{LossySender}
+use Rattle.components.specs.declared.toggler.Toggler.{Toggler}
+use Rattle.remy.specs.Build.{Parts}
+use Rattle.builder.specs.declared.parts.Made.{Made}
+
+abbrev pub toldParts : Made → Parts
+toldParts m = record { number = m .number; senders = m .senders; togglers = m .togglers }
+
+-- all made
+abbrev pub partsOf : List LossySender → List Toggler → Parts
+partsOf senders togglers = record { number = 0; senders = senders; togglers = togglers }

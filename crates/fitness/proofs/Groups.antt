@@ -1,0 +1,459 @@
+-- The groups of tests together are `fit`; and what each result of a group says of it. Assumes nothing.
+use Prim.Native.Nat.{ℕ, _+_, _*_, _<_}
+use mathlib.Core.Path.{_≡_, refl, sym, ap, ap₂, _∙_}
+use mathlib.Core.Bool.{Bool, true, false, _&&_, _||_}
+use mathlib.Core.List.{List}
+use lib.Dec.{leb, eqb}
+use lib.Ieee.{le}
+use Rattle.quantities.specs.declared.time.OptionTime.{OptionTime}
+use Rattle.quantities.specs.declared.time.OptionTime.the-variants.{Some}
+use Rattle.quantities.specs.Doubles.{zeroF}
+use Rattle.components.specs.declared.packet.Packet.{Packet}
+use Rattle.components.specs.declared.packet.Transit.{Transit}
+use Rattle.components.specs.Queue.{queuePlaces}
+use Rattle.remy.specs.declared.simulation.Next.{Next}
+use Rattle.remy.specs.declared.simulation.Simulation.{Simulation}
+use Rattle.remy.specs.Network.{networkStop}
+use Rattle.remy.specs.State.{noPacket, roleOf, senderAt, togglerAt, meterAt, queuedAt, waitingItems, onLineItems, onLinePackets}
+use Rattle.remy.specs.Queue.{nextTimeOf}
+use Rattle.remy.specs.Fit.{every, upTo, networkFit, ringsFit, packetFit, packetsFit, bitsFit, clockFit, held, heldIfAny, heldSender, heldQueued, isNext, heldTimesFit, sinceStart, startedFit, meterStartFit, pastFit, totalsFit, sumsFit, countOf, recordsFit, rising, dueFit, ackFit, countsFit, windowsFit, timersFit, togglersAgree, metersAgree, meterBitsFit, sameTime, nextFit, queueFit, fit}
+use Rattle.remy.proofs.Facts.{FitState, fit-state, both-l, both-r, both-i, upTo-at}
+use Rattle.remy.specs.declared.simulation.Next.the-variants as Next
+use Rattle.fitness.specs.Tests.{ringsTest, clockHeld, frameTest, packetTest, transitTest, waitingTest, onLineTest, dueTest, packetsTest, firstDue, waitingOf, onLineOf, sendersTest, partTime, placeTest, emptyTest, nextTest, placesTest, queueTest}
+use Rattle.fitness.proofs.Clauses.{same-test, and-2, and-3, and-4, and-5, every-imp, every-and, every-map, upTo-i, bits-product, count-tally, count-map, packet-clauses, clauses-packet, SenderClauses, sender-clauses, clauses-sender, own-same, place-same}
+
+module _ (s : Simulation) where
+  -- ---- the groups' tests of the state
+
+  abbrev frame : Bool
+  frame = frameTest (s .network) (s .head) (s .line)
+
+  abbrev packets : Bool
+  packets = packetsTest (s .senders) (s .network .senders) (s .head .clock) (s .waiting) (s .line .waiting) (s .«on_line») (s .line .«on_line»)
+
+  abbrev senders : Bool
+  senders =
+      sendersTest (s .network .policy) (s .network .bits) (s .head .clock) (s .waiting) (s .line .waiting) (s .«on_line») (s .line .«on_line») (s .network .senders)
+      (s .senders) (s .togglers) (s .meters)
+
+  abbrev queue : Bool
+  queue =
+      queueTest (s .network .senders) (s .line) (s .head .clock) (firstDue (s .«on_line») (s .line .«on_line»)) (s .senders) (s .togglers) (s .queue) (s .head .next)
+
+  -- ---- network, head and line
+
+  bits-same : bitsFit s ≡ eqb (s .line .«buffer_contains» .0) (s .line .waiting .count * s .network .bits)
+  unfolding bitsFit
+  bits-same = ap (eqb (s .line .«buffer_contains» .0)) (bits-product (s .network .bits) noPacket (s .waiting) (s .line .waiting .start) (s .line .waiting .count))
+
+  rings-same : ringsTest (s .line) ≡ ringsFit s
+  unfolding ringsTest ringsFit
+  rings-same = refl
+
+  record Frame : Type 0 where
+    network : networkFit s ≡ true
+    rings : ringsFit s ≡ true
+    bits : bitsFit s ≡ true
+    clock : clockFit s ≡ true
+    clock-held : clockHeld (s .head) ≡ true
+    earliest : held (s .line .«earliest_transmit») ≡ true
+
+  from-frame : frame ≡ true → Frame
+  unfolding frameTest networkFit clockFit
+  from-frame e =
+      let a = eqb (networkStop (s .network)) 0 in
+      let b = ringsTest (s .line) in
+      let c = eqb (s .line .«buffer_contains» .0) (s .line .waiting .count * s .network .bits) in
+      let d = le zeroF (s .head .clock .0 .0) in
+      let f = clockHeld (s .head) in
+      let g = held (s .line .«earliest_transmit») in
+      let x = and-3 (a && b && c && d) f g e in
+      let y = and-4 a b c d (x .0) in
+      record { network = y .0; rings = sym rings-same ∙ y .1; bits = bits-same ∙ y .2; clock = y .3; clock-held = x .1; earliest = x .2 }
+
+  to-frame : Frame → frame ≡ true
+  unfolding frameTest networkFit clockFit
+  to-frame f = rw (f .network, rings-same ∙ f .rings, sym bits-same ∙ f .bits, f .clock, f .clock-held, f .earliest)
+
+  -- ---- packets
+
+  record Packets : Type 0 where
+    waiting : every (packetFit s) (waitingItems s) ≡ true
+    on-line : every (packetFit s) (onLinePackets s) ≡ true
+    waiting-held : every (λ p. held (p .«sent_time»)) (waitingItems s) ≡ true
+    on-line-held : every (λ p. held (p .«sent_time»)) (onLinePackets s) ≡ true
+    due-held : every (λ x. held (x .due)) (onLineItems s) ≡ true
+    waiting-past : every (λ p. sinceStart s (p .«sent_time»)) (waitingItems s) ≡ true
+    on-line-past : every (λ p. sinceStart s (p .«sent_time»)) (onLinePackets s) ≡ true
+    due : dueFit s ≡ true
+
+  abbrev passes : Packet → Bool
+  passes = packetTest (s .senders) (s .network .senders) (s .head .clock)
+
+  abbrev moves : Transit → Bool
+  moves = transitTest (s .senders) (s .network .senders) (s .head .clock)
+
+  moves-parts : (x : Transit) → moves x ≡ true → (passes (x .packet) ≡ true) × (held (x .due) ≡ true)
+  unfolding transitTest
+  moves-parts x e = and-2 (passes (x .packet)) (held (x .due)) e
+
+  parts-move : (x : Transit) → (passes (x .packet) && held (x .due)) ≡ true → moves x ≡ true
+  unfolding transitTest
+  parts-move x e = e
+
+  from-packets : packets ≡ true → Packets
+  unfolding packetsTest waitingTest onLineTest dueTest dueFit
+  from-packets e =
+      let W = waitingItems s in
+      let O = onLineItems s in
+      let a = and-3 (every passes W) (every moves O) (rising O) e in
+      let on-line : every passes (onLinePackets s) ≡ true = every-map passes (λ x. x .packet) O ∙ every-imp moves (λ x. passes (x .packet)) (λ x h. moves-parts x h .0) O (a .1) in
+      record {
+        waiting = every-imp passes (packetFit s) (λ p h. packet-clauses s p h .0) W (a .0);
+        on-line = every-imp passes (packetFit s) (λ p h. packet-clauses s p h .0) (onLinePackets s) on-line;
+        waiting-held = every-imp passes (λ p. held (p .«sent_time»)) (λ p h. packet-clauses s p h .1) W (a .0);
+        on-line-held = every-imp passes (λ p. held (p .«sent_time»)) (λ p h. packet-clauses s p h .1) (onLinePackets s) on-line;
+        due-held = every-imp moves (λ x. held (x .due)) (λ x h. moves-parts x h .1) O (a .1);
+        waiting-past = every-imp passes (λ p. sinceStart s (p .«sent_time»)) (λ p h. packet-clauses s p h .2) W (a .0);
+        on-line-past = every-imp passes (λ p. sinceStart s (p .«sent_time»)) (λ p h. packet-clauses s p h .2) (onLinePackets s) on-line;
+        due = a .2;
+      }
+
+  -- the three clauses of a packet
+  all-pass : (xs : List Packet) → every (packetFit s) xs ≡ true → every (λ p. held (p .«sent_time»)) xs ≡ true
+      → every (λ p. sinceStart s (p .«sent_time»)) xs ≡ true → every passes xs ≡ true
+  all-pass xs e f g =
+      let h : Packet → Bool = λ p. held (p .«sent_time») in
+      let r : Packet → Bool = λ p. sinceStart s (p .«sent_time») in
+      every-imp (λ p. packetFit s p && h p && r p) passes
+      (λ p k. let x = and-3 (packetFit s p) (h p) (r p) k in clauses-packet s p (x .0) (x .1) (x .2)) xs
+      (every-and (λ p. packetFit s p && h p) r xs (every-and (packetFit s) h xs e f) g)
+
+  to-packets : Packets → packets ≡ true
+  unfolding packetsTest waitingTest onLineTest dueTest dueFit
+  to-packets p =
+      let W = waitingItems s in
+      let O = onLineItems s in
+      let w = all-pass W (p .waiting) (p .waiting-held) (p .waiting-past) in
+      let o = all-pass (onLinePackets s) (p .on-line) (p .on-line-held) (p .on-line-past) in
+      let m =
+      every-imp (λ x. passes (x .packet) && held (x .due)) moves parts-move O
+      (every-and (λ x. passes (x .packet)) (λ x. held (x .due)) O (sym (every-map passes (λ x. x .packet) O) ∙ o) (p .due-held)) in
+      both-i (every passes W && every moves O) (rising O) (both-i (every passes W) (every moves O) w m) (p .due)
+
+  -- ---- senders
+
+  abbrev waits-of : ℕ → ℕ
+  waits-of i = waitingOf i (s .waiting) (s .line .waiting)
+
+  abbrev moves-of : ℕ → ℕ
+  moves-of i = onLineOf i (s .«on_line») (s .line .«on_line»)
+
+  counts-same : (i : ℕ)
+      → leb (meterAt s i .records + waits-of i + moves-of i) (senderAt s i .«packets_sent»)
+      ≡ leb (meterAt s i .records + countOf i (waitingItems s) + countOf i (onLinePackets s)) (senderAt s i .«packets_sent»)
+  unfolding waitingOf onLineOf
+  counts-same i =
+      ap₂ (λ (a b : ℕ). leb (meterAt s i .records + a + b) (senderAt s i .«packets_sent»)) (sym (count-tally i (waitingItems s))) (sym (count-map i (onLineItems s)))
+
+  from-senders : senders ≡ true → (i : ℕ) → i < s .network .senders → SenderClauses s i (waits-of i) (moves-of i)
+  unfolding sendersTest
+  from-senders e i h = sender-clauses s i (waits-of i) (moves-of i) (upTo-at (s .network .senders) _ e i h)
+
+  to-senders : ((i : ℕ) → i < s .network .senders → SenderClauses s i (waits-of i) (moves-of i)) → senders ≡ true
+  unfolding sendersTest
+  to-senders all = upTo-i (s .network .senders) _ (λ i h. clauses-sender s i (waits-of i) (moves-of i) (all i h))
+
+  -- ---- the queue
+
+  abbrev own : ℕ → OptionTime
+  own k = partTime (s .network .senders) (s .line) (s .head .clock) (firstDue (s .«on_line») (s .line .«on_line»)) (s .senders) (s .togglers) k
+
+  abbrev next-test : Next → Bool
+  next-test next =
+      nextTest (s .network .senders) (s .line) (s .head .clock) (firstDue (s .«on_line») (s .line .«on_line»)) (s .senders) (s .togglers) (s .queue) next
+
+  part-same : (k : ℕ) → own k ≡ nextTimeOf s k
+  unfolding partTime
+  part-same k = own-same s (roleOf (s .network .senders) k)
+
+  next-same : (next : Next) → next-test next ≡ nextFit s next
+  unfolding nextTest emptyTest
+  next-same Next.None = refl
+  next-same (Next.Part j) = ap (sameTime (Some (s .head .clock))) (part-same j)
+
+  abbrev place : ℕ → Bool
+  place k = placeTest (s .head .next) (s .head .clock) k (queuedAt s k) (own k)
+
+  abbrev place-held : ℕ → Bool
+  place-held k = isNext (s .head .next) k || heldQueued s (queuedAt s k)
+
+  abbrev place-own : ℕ → Bool
+  place-own k = isNext (s .head .next) k || sameTime (queuedAt s k) (nextTimeOf s k)
+
+  place-is : (k : ℕ) → place k ≡ (place-held k && place-own k)
+  place-is k =
+      place-same s (s .head .next) k (queuedAt s k) _ ∙ ap (λ (t : OptionTime). place-held k && (isNext (s .head .next) k || sameTime (queuedAt s k) t)) (part-same k)
+
+  places : ℕ → Bool
+  places n =
+      placesTest (s .network .senders) (s .line) (s .head .clock) (firstDue (s .«on_line») (s .line .«on_line»)) (s .senders) (s .togglers) n (s .queue) (s .head .next)
+
+  places-held : (n : ℕ) → places n ≡ true → upTo n place-held ≡ true
+  unfolding places placesTest
+  places-held n e = upTo-i n place-held (λ k h. both-l (place-held k) (place-own k) (sym (place-is k) ∙ upTo-at n place e k h))
+
+  places-own : (n : ℕ) → places n ≡ true → upTo n place-own ≡ true
+  unfolding places placesTest
+  places-own n e = upTo-i n place-own (λ k h. both-r (place-held k) (place-own k) (sym (place-is k) ∙ upTo-at n place e k h))
+
+  to-places : (n : ℕ) → upTo n place-held ≡ true → upTo n place-own ≡ true → places n ≡ true
+  unfolding places placesTest
+  to-places n e f = upTo-i n place (λ k h. place-is k ∙ both-i (place-held k) (place-own k) (upTo-at n place-held e k h) (upTo-at n place-own f k h))
+
+  from-queue : queue ≡ true → (nextFit s (s .head .next) ≡ true) × (places queuePlaces ≡ true)
+  unfolding queueTest places
+  from-queue e =
+      let a = and-2 (next-test (s .head .next)) (places queuePlaces) e in
+      (sym (next-same (s .head .next)) ∙ a .0, a .1)
+
+  to-queue : nextFit s (s .head .next) ≡ true → places queuePlaces ≡ true → queue ≡ true
+  unfolding queueTest places
+  to-queue e f = both-i _ (places queuePlaces) (next-same (s .head .next) ∙ e) f
+
+  -- ---- the clauses of which several groups test a part
+
+  abbrev each : (ℕ → Bool) → Bool
+  each f = upTo (s .network .senders) f
+
+  record HeldTimes : Type 0 where
+    clock : clockHeld (s .head) ≡ true
+    earliest : held (s .line .«earliest_transmit») ≡ true
+    waiting : every (λ p. held (p .«sent_time»)) (waitingItems s) ≡ true
+    on-line : every (λ p. held (p .«sent_time»)) (onLinePackets s) ≡ true
+    due : every (λ x. held (x .due)) (onLineItems s) ≡ true
+    states : each (λ i. heldSender (senderAt s i .state)) ≡ true
+    toggles : each (λ i. held (togglerAt s i .«next_toggle»)) ≡ true
+    starts : each (λ i. heldIfAny (meterAt s i .«current_start»)) ≡ true
+    queued : upTo queuePlaces place-held ≡ true
+
+  to-held : HeldTimes → heldTimesFit s ≡ true
+  unfolding heldTimesFit clockHeld
+  to-held h =
+      both-i _ _
+      (both-i _ _
+      (both-i _ _
+      (both-i _ _ (both-i _ _ (both-i _ _ (both-i _ _ (both-i _ _ (h .clock) (h .earliest)) (h .waiting)) (h .on-line)) (h .due)) (h .states))
+      (h .toggles))
+      (h .starts))
+      (h .queued)
+
+  from-held : heldTimesFit s ≡ true → HeldTimes
+  unfolding heldTimesFit clockHeld
+  from-held e =
+      let a = clockHeld (s .head) in
+      let b = held (s .line .«earliest_transmit») in
+      let c = every (λ p. held (p .«sent_time»)) (waitingItems s) in
+      let d = every (λ p. held (p .«sent_time»)) (onLinePackets s) in
+      let f = every (λ x. held (x .due)) (onLineItems s) in
+      let g = each (λ i. heldSender (senderAt s i .state)) in
+      let h = each (λ i. held (togglerAt s i .«next_toggle»)) in
+      let k = each (λ i. heldIfAny (meterAt s i .«current_start»)) in
+      let l = upTo queuePlaces place-held in
+      let y = and-5 (a && b && c && d && f) g h k l e in
+      let x = and-5 a b c d f (y .0) in
+      record { clock = x .0; earliest = x .1; waiting = x .2; on-line = x .3; due = x .4; states = y .1; toggles = y .2; starts = y .3; queued = y .4 }
+
+  record Past : Type 0 where
+    waiting : every (λ p. sinceStart s (p .«sent_time»)) (waitingItems s) ≡ true
+    on-line : every (λ p. sinceStart s (p .«sent_time»)) (onLinePackets s) ≡ true
+    started : each (λ i. startedFit s (senderAt s i .state)) ≡ true
+    starts : each (λ i. meterStartFit s (meterAt s i .«current_start»)) ≡ true
+
+  to-past : Past → pastFit s ≡ true
+  unfolding pastFit
+  to-past p = both-i _ _ (both-i _ _ (both-i _ _ (p .waiting) (p .on-line)) (p .started)) (p .starts)
+
+  from-past : pastFit s ≡ true → Past
+  unfolding pastFit
+  from-past e =
+      let x =
+      and-4 (every (λ p. sinceStart s (p .«sent_time»)) (waitingItems s)) (every (λ p. sinceStart s (p .«sent_time»)) (onLinePackets s))
+      (each (λ i. startedFit s (senderAt s i .state))) (each (λ i. meterStartFit s (meterAt s i .«current_start»))) e in
+      record { waiting = x .0; on-line = x .1; started = x .2; starts = x .3 }
+
+  packets-parts : packetsFit s ≡ (every (packetFit s) (waitingItems s) && every (packetFit s) (onLinePackets s))
+  unfolding packetsFit
+  packets-parts = refl
+
+  queue-parts : queueFit s ≡ (nextFit s (s .head .next) && upTo queuePlaces place-own)
+  unfolding queueFit
+  queue-parts = refl
+
+  -- ---- the clauses of the senders
+
+  all-senders : ((i : ℕ) → i < s .network .senders → SenderClauses s i (waits-of i) (moves-of i)) → (totalsFit s ≡ true)
+      × (sumsFit s ≡ true)
+      × (recordsFit s ≡ true)
+      × (countsFit s ≡ true)
+      × (windowsFit s ≡ true)
+      × (timersFit s ≡ true)
+      × (togglersAgree s ≡ true)
+      × (metersAgree s ≡ true)
+      × (meterBitsFit s ≡ true)
+  unfolding totalsFit sumsFit recordsFit countsFit windowsFit timersFit togglersAgree metersAgree meterBitsFit
+  all-senders c =
+      let n = s .network .senders in (
+        upTo-i n _ (λ i h. c i h .total),
+        upTo-i n _ (λ i h. c i h .sum),
+        upTo-i n _ (λ i h. sym (counts-same i) ∙ c i h .records),
+        upTo-i n _ (λ i h. both-i _ _ (c i h .few) (c i h .state .ack)),
+        upTo-i n _ (λ i h. c i h .state .window),
+        upTo-i n _ (λ i h. c i h .state .timer),
+        upTo-i n _ (λ i h. c i h .toggler-on),
+        upTo-i n _ (λ i h. c i h .meter-on),
+        upTo-i n _ (λ i h. c i h .bits),
+      )
+
+  each-sender : FitState s → HeldTimes → Past → (i : ℕ) → i < s .network .senders → SenderClauses s i (waits-of i) (moves-of i)
+  unfolding totalsFit sumsFit recordsFit countsFit windowsFit timersFit togglersAgree metersAgree meterBitsFit
+  each-sender f t p i h =
+      let n = s .network .senders in
+      let few = and-2 (leb (senderAt s i .«packets_sent») 16777216) (ackFit (senderAt s i .state)) (upTo-at n _ (f .counts) i h) in
+      record {
+        state = record {
+          times = upTo-at n _ (t .states) i h;
+          started = upTo-at n _ (p .started) i h;
+          ack = few .1;
+          window = upTo-at n _ (f .windows) i h;
+          timer = upTo-at n _ (f .timers) i h;
+        };
+        toggle = upTo-at n _ (t .toggles) i h;
+        meter-held = upTo-at n _ (t .starts) i h;
+        meter-start = upTo-at n _ (p .starts) i h;
+        total = upTo-at n _ (f .totals) i h;
+        sum = upTo-at n _ (f .sums) i h;
+        bits = upTo-at n _ (f .meter-bits) i h;
+        few = few .0;
+        records = counts-same i ∙ upTo-at n _ (f .records) i h;
+        toggler-on = upTo-at n _ (f .togglers) i h;
+        meter-on = upTo-at n _ (f .meters) i h;
+      }
+
+  -- ---- all of them
+
+  state-of : frame ≡ true → packets ≡ true → senders ≡ true → queue ≡ true → FitState s
+  state-of a b d e =
+      let n = s .network .senders in
+      let f = from-frame a in
+      let p = from-packets b in
+      let c = from-senders d in
+      let q = from-queue e in
+      let x = all-senders c in
+      record {
+        network = f .network;
+        rings = f .rings;
+        packets = packets-parts ∙ both-i _ _ (p .waiting) (p .on-line);
+        bits = f .bits;
+        clock = f .clock;
+        held = to-held
+            (record {
+              clock = f .clock-held;
+              earliest = f .earliest;
+              waiting = p .waiting-held;
+              on-line = p .on-line-held;
+              due = p .due-held;
+              states = upTo-i n _ (λ i h. c i h .state .times);
+              toggles = upTo-i n _ (λ i h. c i h .toggle);
+              starts = upTo-i n _ (λ i h. c i h .meter-held);
+              queued = places-held queuePlaces (q .1);
+            });
+        past = to-past
+            (record {
+              waiting = p .waiting-past;
+              on-line = p .on-line-past;
+              started = upTo-i n _ (λ i h. c i h .state .started);
+              starts = upTo-i n _ (λ i h. c i h .meter-start);
+            });
+        totals = x .0;
+        sums = x .1;
+        records = x .2;
+        due = p .due;
+        counts = x .3;
+        windows = x .4;
+        timers = x .5;
+        togglers = x .6;
+        meters = x .7;
+        meter-bits = x .8;
+        queue = queue-parts ∙ both-i _ _ (q .0) (places-own queuePlaces (q .1));
+      }
+
+  fit-of : FitState s → fit s ≡ true
+  unfolding fit
+  fit-of f =
+      rw (
+        f .network,
+        f .rings,
+        f .packets,
+        f .bits,
+        f .clock,
+        f .held,
+        f .past,
+        f .totals,
+        f .sums,
+        f .records,
+        f .due,
+        f .counts,
+        f .windows,
+        f .timers,
+        f .togglers,
+        f .meters,
+        f .meter-bits,
+        f .queue,
+      )
+
+  tests-of : FitState s → (frame && packets && senders && queue) ≡ true
+  tests-of f =
+      let t = from-held (f .held) in
+      let p = from-past (f .past) in
+      let w = and-2 (every (packetFit s) (waitingItems s)) (every (packetFit s) (onLinePackets s)) (sym packets-parts ∙ f .packets) in
+      let q = and-2 (nextFit s (s .head .next)) (upTo queuePlaces place-own) (sym queue-parts ∙ f .queue) in
+      both-i (frame && packets && senders) queue
+      (both-i (frame && packets) senders
+      (both-i frame packets
+      (to-frame (record { network = f .network; rings = f .rings; bits = f .bits; clock = f .clock; clock-held = t .clock; earliest = t .earliest }))
+      (to-packets
+      (record {
+        waiting = w .0;
+        on-line = w .1;
+        waiting-held = t .waiting;
+        on-line-held = t .on-line;
+        due-held = t .due;
+        waiting-past = p .waiting;
+        on-line-past = p .on-line;
+        due = f .due;
+      })))
+      (to-senders (each-sender f t p)))
+      (to-queue (q .0) (to-places queuePlaces (t .queued) (q .1)))
+
+  pub groups-fit : (frame && packets && senders && queue) ≡ fit s
+  groups-fit =
+      same-test (frame && packets && senders && queue) (fit s)
+      (λ e. let a = and-4 frame packets senders queue e in fit-of (state-of (a .0) (a .1) (a .2) (a .3)))
+      (λ e. tests-of (fit-state s e))
+
+  -- ---- the results of the groups' tests, one after the other
+
+  pub stops-frame : (a : Bool) → a ≡ frame → a ≡ false → false ≡ fit s
+  stops-frame a ea e = rw (← groups-fit, ← ea, e)
+
+  module _ (a : Bool) (ea : a ≡ frame) (pa : a ≡ true) where
+    pub stops-packets : (b : Bool) → b ≡ packets → b ≡ false → false ≡ fit s
+    stops-packets b eb e = rw (← groups-fit, ← ea, pa, ← eb, e)
+
+    module _ (b : Bool) (eb : b ≡ packets) (pb : b ≡ true) where
+      pub stops-senders : (c : Bool) → c ≡ senders → c ≡ false → false ≡ fit s
+      stops-senders c ec e = rw (← groups-fit, ← ea, pa, ← eb, pb, ← ec, e)
+
+      pub ends-queue : (c : Bool) → c ≡ senders → c ≡ true → (d : Bool) → d ≡ queue → d ≡ fit s
+      ends-queue c ec pc d ed = rw (← groups-fit, ← ea, pa, ← eb, pb, ← ec, pc, ed)

@@ -1,0 +1,55 @@
+-- Each return rewrites by the tests that led there. Assumes nothing.
+use borrow.Author.Tests.{not-false, not-true}
+use borrow.Author.Needs.{needs}
+use Rattle.fitness.specs.Tests.{packetsTest}
+use Rattle.fitness.proofs.packets.packets_fit.Statement.{statement}
+use Rattle.fitness.proofs.packets.packets_fit.Tie as tie
+
+waiting-fit-requires : tie.Need-waiting-fit-requires
+waiting-fit-requires c κs = search needs
+
+returns : tie.Need-returns
+unfolding packetsTest
+returns c =
+    rw (
+      ← c .before .waiting-fit .ensures,
+      not-true (c .before .waiting-fit .result) (c .if1 .taken),
+    )
+
+on-line-fit-requires : tie.Need-on-line-fit-requires
+on-line-fit-requires c κs = search needs
+
+returns-2 : tie.Need-returns-2
+unfolding packetsTest
+returns-2 c =
+    rw (
+      ← c .before .before .before .waiting-fit .ensures,
+      not-false (c .before .before .before .waiting-fit .result) (c .before .before .if1 .left),
+      ← c .before .on-line-fit .ensures,
+      not-true (c .before .on-line-fit .result) (c .if2 .taken),
+    )
+
+due-fit-requires : tie.Need-due-fit-requires
+due-fit-requires c κs = search needs
+
+returns-3 : tie.Need-returns-3
+unfolding packetsTest
+returns-3 c =
+    rw (
+      c .due-fit .ensures,
+      ← c .before .before .before .before .waiting-fit .ensures,
+      not-false (c .before .before .before .before .waiting-fit .result) (c .before .before .before .if1 .left),
+      ← c .before .before .on-line-fit .ensures,
+      not-false (c .before .before .on-line-fit .result) (c .before .if2 .left),
+    )
+
+pub packets-fit-spec : {M : Type 1} → statement M
+packets-fit-spec =
+    tie.close
+    (tie.spec
+    waiting-fit-requires
+    returns
+    on-line-fit-requires
+    returns-2
+    due-fit-requires
+    returns-3)

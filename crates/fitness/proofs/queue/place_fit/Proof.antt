@@ -1,0 +1,49 @@
+-- Each return rewrites by the tests that led there. Assumes nothing.
+use borrow.Author.Tests.{not-false, not-true}
+use borrow.Author.Needs.{needs}
+use Rattle.fitness.specs.Tests.{placeTest}
+use Rattle.fitness.proofs.queue.place_fit.Statement.{statement}
+use Rattle.fitness.proofs.queue.place_fit.Tie as tie
+
+is-next-requires : tie.Need-is-next-requires
+is-next-requires c κs = search needs
+
+returns : tie.Need-returns
+unfolding placeTest
+returns c =
+    rw (
+      ← c .before .is-next .ensures,
+      c .if1 .taken,
+    )
+
+queued-fit-requires : tie.Need-queued-fit-requires
+queued-fit-requires c κs = search needs
+
+returns-2 : tie.Need-returns-2
+unfolding placeTest
+returns-2 c =
+    rw (
+      ← c .before .before .before .is-next .ensures,
+      c .before .before .if1 .left,
+      ← c .before .queued-fit .ensures,
+      not-true (c .before .queued-fit .result) (c .if2 .taken),
+    )
+
+same-time-requires : tie.Need-same-time-requires
+same-time-requires c κs = search needs
+
+returns-3 : tie.Need-returns-3
+unfolding placeTest
+returns-3 c =
+    rw (
+      c .same-time .ensures,
+      ← c .before .before .before .before .is-next .ensures,
+      c .before .before .before .if1 .left,
+      ← c .before .before .queued-fit .ensures,
+      not-false (c .before .before .queued-fit .result) (c .before .if2 .left),
+    )
+
+pub place-fit-spec : {M : Type 1} → statement M
+place-fit-spec =
+    tie.close
+    (tie.spec is-next-requires returns queued-fit-requires returns-2 same-time-requires returns-3)

@@ -1,0 +1,67 @@
+-- Each return rewrites by the tests that led there. Assumes nothing.
+use borrow.Author.Tests.{le-leb, lt-leb, not-false, not-true}
+use borrow.Author.Needs.{needs}
+use Rattle.fitness.specs.Tests.{enabledTest}
+use Rattle.fitness.proofs.senders.enabled_fit.Statement.{statement}
+use Rattle.fitness.proofs.senders.enabled_fit.Tie as tie
+
+past-fit-requires : tie.Need-past-fit-requires
+past-fit-requires c κs = search needs
+
+returns : tie.Need-returns
+unfolding enabledTest
+returns c =
+    rw (
+      ← c .before .past-fit .ensures,
+      not-true (c .before .past-fit .result) (c .if1 .taken),
+    )
+
+returns-2 : tie.Need-returns-2
+unfolding enabledTest
+returns-2 c =
+    rw (
+      ← c .before .before .before .past-fit .ensures,
+      not-false (c .before .before .before .past-fit .result) (c .before .before .if1 .left),
+      lt-leb _ _ (c .if2 .taken),
+    )
+
+window-fit-requires : tie.Need-window-fit-requires
+window-fit-requires c κs = search needs
+
+returns-3 : tie.Need-returns-3
+unfolding enabledTest
+returns-3 c =
+    rw (
+      ← c .before .before .before .before .before .past-fit .ensures,
+      not-false (c .before .before .before .before .before .past-fit .result) (c .before .before .before .before .if1 .left),
+      le-leb _ _ (c .before .before .if2 .left),
+      ← c .before .window-fit .ensures,
+      not-true (c .before .window-fit .result) (c .if3 .taken),
+    )
+
+timer-fit-requires : tie.Need-timer-fit-requires
+timer-fit-requires c κs = search needs
+
+returns-4 : tie.Need-returns-4
+unfolding enabledTest
+returns-4 c =
+    rw (
+      c .timer-fit .ensures,
+      ← c .before .before .before .before .before .before .past-fit .ensures,
+      not-false (c .before .before .before .before .before .before .past-fit .result) (c .before .before .before .before .before .if1 .left),
+      le-leb _ _ (c .before .before .before .if2 .left),
+      ← c .before .before .window-fit .ensures,
+      not-false (c .before .before .window-fit .result) (c .before .if3 .left),
+    )
+
+pub enabled-fit-spec : {M : Type 1} → statement M
+enabled-fit-spec =
+    tie.close
+    (tie.spec
+    past-fit-requires
+    returns
+    returns-2
+    window-fit-requires
+    returns-3
+    timer-fit-requires
+    returns-4)

@@ -1,0 +1,52 @@
+ghost use mathlib.Core.Path.{_≡_};
+ghost use Rattle.remy.specs.Fit.{fit};
+use crate::frame::frame_fit;
+use crate::packets::first_due;
+use crate::packets::packets_fit;
+use crate::queue::queue_fit;
+use crate::senders::senders_fit;
+use remy::Simulation;
+
+// Whether a simulation is fit: no clause of document 01's "Unfit" holds of it.
+pub fn is_fit(simulation: Simulation) -> bool
+    ensures { λ r. ⌜ r ≡ fit simulation ⌝ }
+{
+    let network = simulation.network;
+    let head = simulation.head;
+    let line = simulation.line;
+    if !frame_fit(network, head, line) {
+        return false;
+    }
+    let n = network.senders;
+    let clock = head.clock;
+    let waiting = simulation.waiting;
+    let on_line = simulation.on_line;
+    let senders = simulation.senders;
+    let waits = line.waiting;
+    let moves = line.on_line;
+    if !packets_fit(senders, n, clock, waiting, waits, on_line, moves) {
+        return false;
+    }
+    let policy = network.policy;
+    let togglers = simulation.togglers;
+    let meters = simulation.meters;
+    if !senders_fit(
+        policy,
+        network.bits,
+        clock,
+        waiting,
+        waits,
+        on_line,
+        moves,
+        n,
+        senders,
+        togglers,
+        meters,
+    ) {
+        return false;
+    }
+    let due = first_due(on_line, moves);
+    let queue = simulation.queue;
+    let next = head.next;
+    queue_fit(n, line, clock, due, senders, togglers, queue, next)
+}

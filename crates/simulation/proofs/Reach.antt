@@ -1,0 +1,88 @@
+-- Demand 3 for the states that calls reach: the state after a run is that after so many ticks, and calls and histories append. Assumes nothing.
+use Prim.Native.Nat.{ℕ, zero, suc, _+_}
+use native.Mathlib.Omega.{arith}
+use mathlib.Core.Path.{_≡_, refl, sym, ap, ap₂, subst, _∙_}
+use mathlib.Core.Bool.{Bool, true, false, cond, true≢false}
+use mathlib.Core.List.{List, [], _∷_, _++_}
+use Rattle.remy.specs.declared.simulation.Simulation.{Simulation}
+use Rattle.remy.specs.declared.simulation.TickRecord.{TickRecord}
+use Rattle.remy.specs.declared.simulation.Ticked.{Ticked}
+use Rattle.remy.specs.declared.simulation.Ran.{Ran}
+use Rattle.remy.specs.State.{link, sender, toggler}
+use Rattle.remy.specs.Fit.{fit}
+use Rattle.remy.specs.Tick.{Outcome, moves, stops, ticked, unmoved, outcomeOf, tickOf}
+use Rattle.remy.specs.Run.{oneMore, runOf}
+use Rattle.remy.specs.History.{Call, tick, called, after, history, noted, Fresh}
+use Rattle.remy.specs.Account.{Account}
+use Rattle.remy.proofs.Account.{demand3}
+use Rattle.turns.specs.declared.Now.{Now}
+use Rattle.turns.specs.declared.Now.the-variants as Now
+use Rattle.turns.specs.Turns.{nowOf}
+use Rattle.simulation.specs.Reached.{ticks, TickAccount, RunAccount}
+use Rattle.simulation.proofs.Ticks.{TickAs, now-tick}
+
+-- ---- calls and histories append
+
+after-append : (cs ds : List Call) (s : Simulation) → after (cs ++ ds) s ≡ after ds (after cs s)
+after-append [] ds s = refl
+after-append (c ∷ cs) ds s = after-append cs ds (called c s .simulation)
+
+noted-append : (t : Ticked) (h g : List TickRecord) → noted t (h ++ g) ≡ noted t h ++ g
+noted-append t h g = by (t .moved)
+  where
+    by : (b : Bool) → cond b (t .note ∷ (h ++ g)) (h ++ g) ≡ cond b (t .note ∷ h) h ++ g
+    by true = refl
+    by false = refl
+
+history-append : (cs ds : List Call) (s : Simulation) → history (cs ++ ds) s ≡ history cs s ++ history ds (after cs s)
+history-append [] ds s = refl
+history-append (c ∷ cs) ds s =
+    ap (noted (called c s)) (history-append cs ds (called c s .simulation)) ∙ noted-append (called c s) (history cs (called c s .simulation)) (history ds (after cs (called c s .simulation)))
+
+-- ---- a tick
+
+pub tick-account : (s : Simulation) (r : Ticked) → r ≡ tickOf s → TickAccount s r
+tick-account s r e n s₀ fresh cs reached =
+    let now : tickOf (after cs s₀) ≡ r = ap tickOf (sym reached) ∙ sym e in
+    let state : after (cs ++ (tick ∷ [])) s₀ ≡ r .simulation = after-append cs (tick ∷ []) s₀ ∙ ap (λ (t : Ticked). t .simulation) now in
+    let records : history (cs ++ (tick ∷ [])) s₀ ≡ history cs s₀ ++ noted r [] = history-append cs (tick ∷ []) s₀ ∙ ap (λ (t : Ticked). history cs s₀ ++ noted t []) now in
+    subst (λ (h : List TickRecord). Account n h (r .simulation)) records (subst (Account n (history (cs ++ (tick ∷ [])) s₀)) state (demand3 n s₀ fresh (cs ++ (tick ∷ []))))
+
+-- ---- a run
+
+-- a tick that does not move returns the state that it was given
+abbrev Still : Simulation → Ticked → Type 0
+Still s t = t .moved ≡ false → t .simulation ≡ s
+
+still : (s : Simulation) → Still s (tickOf s)
+still s = by (nowOf (fit s) (s .head) (s .network .senders)) (now-tick s _ refl)
+  where
+    of-outcome : (o : Outcome) → Still s (ticked s o)
+    of-outcome (stops k) e = refl
+    of-outcome (moves x m) e = absurd (true≢false e)
+
+    by : (w : Now) → TickAs s w → Still s (tickOf s)
+    by (Now.Stop k) t = subst (Still s) (sym t) (of-outcome (stops k))
+    by Now.Link t = subst (Still s) (sym (t .1)) (of-outcome (outcomeOf s link))
+    by (Now.Sender i) t = subst (Still s) (sym (t .2)) (of-outcome (outcomeOf s (sender i)))
+    by (Now.Toggler i) t = subst (Still s) (sym (t .2)) (of-outcome (outcomeOf s (toggler i)))
+
+run-after : (n : ℕ) (s : Simulation) → after (ticks (runOf n s .done)) s ≡ runOf n s .simulation
+unfolding runOf
+run-after zero s = refl
+run-after (suc n) s = by (tickOf s) (tickOf s .moved) refl refl (λ m. run-after n m)
+  where
+    ran : Ticked → Ran
+    ran t = cond (t .moved) (oneMore (runOf n (t .simulation))) (record { done = 0; number = t .number; simulation = t .simulation })
+
+    by : (t : Ticked) (b : Bool) → tickOf s ≡ t → t .moved ≡ b → ((m : Simulation) → after (ticks (runOf n m .done)) m ≡ runOf n m .simulation) → after (ticks (ran t .done)) s ≡ ran t .simulation
+    by t true e h rest =
+        let more : runOf n (t .simulation) .done + 1 ≡ suc (runOf n (t .simulation) .done) = omega arith in
+        rw (h, more) (ap (λ (x : Ticked). after (ticks (runOf n (t .simulation) .done)) (x .simulation)) e ∙ rest (t .simulation))
+    by t false e h rest = rw h (sym (subst (Still s) e (still s) h))
+
+pub run-account : (k : ℕ) (s : Simulation) (r : Ran) → r ≡ runOf k s → RunAccount s r
+run-account k s r e n s₀ fresh cs reached =
+    let state : after (cs ++ ticks (r .done)) s₀ ≡ r .simulation =
+    after-append cs (ticks (r .done)) s₀ ∙ ap (after (ticks (r .done))) (sym reached) ∙ ap (λ (x : Ran). after (ticks (x .done)) s) e ∙ run-after k s ∙ ap (λ (x : Ran). x .simulation) (sym e) in
+    subst (Account n (history (cs ++ ticks (r .done)) s₀)) state (demand3 n s₀ fresh (cs ++ ticks (r .done)))

@@ -1,0 +1,230 @@
+-- The loop of ticks: whose turn it is, what is in range then, and the equation that the loop keeps. Assumes nothing.
+use mathlib.Core.Path.{_≡_, refl, sym, ap, ap₂, subst, _∙_}
+use mathlib.Core.Bool.{Bool, true, false, not, _&&_, cond, true≢false}
+use mathlib.Core.List.{List, [], _∷_}
+use Prim.Native.Nat.{ℕ, zero, suc, _+_, _*_, _-_, _≤_, _<_, _^_}
+use native.Mathlib.Omega.{arith}
+use native.Mathlib.Nat.{add-zero, zero-add}
+use lib.ListN.{length, getD, set, length-set}
+use lib.Dec.{eqb, ltb, leb}
+use lib.Ieee.{lt, eq}
+use borrow.Author.Tests.{leb-true, ltb-true, eqb-true, lt-ltb}
+use Rattle.quantities.specs.declared.time.Time.{Time}
+use Rattle.quantities.specs.Doubles.{power}
+use Rattle.rand.specs.Draws.{unitOf}
+use Rattle.components.specs.declared.packet.Packet.{Packet}
+use Rattle.components.specs.declared.link.Left.{Left}
+use Rattle.components.specs.declared.link.Left.the-variants as Left
+use Rattle.components.specs.declared.link.Delivered.{Delivered}
+use Rattle.components.specs.declared.tick_queue.Queued.{Queued}
+use Rattle.components.specs.declared.tick_queue.Picked.{Picked}
+use Rattle.components.specs.Ring.{places}
+use Rattle.components.specs.Link.{isDue, departed, tryDeliver}
+use Rattle.components.specs.Queue.{pickOf}
+use Rattle.components.proofs.Items.{Sound, items-length}
+use Rattle.remy.specs.declared.simulation.Next.{Next}
+use Rattle.remy.specs.declared.simulation.Next.the-variants as Next
+use Rattle.remy.specs.declared.simulation.Simulation.{Simulation}
+use Rattle.remy.specs.declared.simulation.TickRecord.{TickRecord}
+use Rattle.remy.specs.declared.simulation.Ticked.{Ticked}
+use Rattle.remy.specs.declared.simulation.Ran.{Ran}
+use Rattle.remy.specs.State.{Role, link, sender, toggler, nobody, roleOf, noPacket, frontOf, firstOf, waitingItems, totalBits, packetBits}
+use Rattle.remy.specs.Fit.{ringsFit, bitsFit, fit}
+use Rattle.remy.specs.Tick.{emptyRecord, Outcome, moves, stops, outcomeOf, actsOf, unmoved, ticked, tickNext, tickOf}
+use Rattle.remy.specs.Run.{oneMore, runOf}
+use Rattle.remy.proofs.Facts.{both-l, both-r, FitState, fit-state}
+use Rattle.remy.proofs.Networks.{few-senders, few-bits}
+use Rattle.remy.proofs.Front.{accepted, front-sender}
+use Rattle.remy.proofs.Fresh.{role-elim}
+use Rattle.turns.specs.declared.Now.{Now}
+use Rattle.turns.specs.declared.Now.the-variants as Now
+use Rattle.turns.specs.declared.LinkActed.{LinkActed}
+use Rattle.turns.proofs.Picks.{part-inside}
+use Rattle.turns.specs.Turns.{nowRole, nowNext, nowOf, ownerOf, linkActed}
+use Rattle.simulation.specs.declared.advance.Advanced.{Advanced}
+use Rattle.simulation.specs.Advance.{advanceOf}
+
+-- ---- whose turn it is
+
+abbrev pub TickAs : Simulation → Now → Type 0
+TickAs s (Now.Stop k) = tickOf s ≡ unmoved s k
+TickAs s Now.Link = (fit s ≡ true) × (tickOf s ≡ ticked s (outcomeOf s link))
+TickAs s (Now.Sender i) = (fit s ≡ true) × (i < s .network .senders) × (tickOf s ≡ ticked s (outcomeOf s (sender i)))
+TickAs s (Now.Toggler i) = (fit s ≡ true) × (i < s .network .senders) × (tickOf s ≡ ticked s (outcomeOf s (toggler i)))
+
+module _ (s : Simulation) (f : fit s ≡ true) where
+  by-role : (k : ℕ) → tickOf s ≡ ticked s (outcomeOf s (roleOf (s .network .senders) k)) → TickAs s (nowRole (roleOf (s .network .senders) k))
+  unfolding outcomeOf actsOf
+  by-role k =
+      role-elim (λ (r : Role). tickOf s ≡ ticked s (outcomeOf s r) → TickAs s (nowRole r)) (s .network .senders) k (λ e. (f, e)) (λ i h e. (f, h, e)) (λ i h e. (f, h, e)) (λ e. e)
+
+  by-next : (next : Next) → tickOf s ≡ tickNext s next → TickAs s (nowNext next (s .head .clock) (s .network .senders))
+  by-next Next.None e = e
+  by-next (Next.Part k) e = late (lt (power 40) (s .head .clock .0 .0)) e
+    where
+      late : (b : Bool) → tickOf s ≡ cond b (unmoved s 10) (ticked s (outcomeOf s (roleOf (s .network .senders) k))) → TickAs s (cond b (Now.Stop 10) (nowRole (roleOf (s .network .senders) k)))
+      late true e = e
+      late false e = by-role k e
+
+pub now-tick : (s : Simulation) (w : Now) → w ≡ nowOf (fit s) (s .head) (s .network .senders) → TickAs s w
+unfolding nowOf tickOf
+now-tick s w e = subst (TickAs s) (sym e) (by (fit s) refl)
+  where
+    by : (b : Bool) → fit s ≡ b → TickAs s (cond b (nowNext (s .head .next) (s .head .clock) (s .network .senders)) (Now.Stop 9))
+    by true f = by-next s f (s .head .next) (rw f)
+    by false f = rw f
+
+-- ---- the loop's equation
+
+pub begins : (n : ℕ) (r : TickRecord) (s : Simulation) → r ≡ emptyRecord → advanceOf (n - 0) 0 r s ≡ advanceOf n 0 emptyRecord s
+begins n r s e = let all : n - 0 ≡ n = omega arith in rw (all, e)
+
+module _ (n d : ℕ) (r : TickRecord) (s : Simulation) where
+  pub goes-on : d < n → (x : TickRecord) (m : Simulation) → tickOf s ≡ ticked s (moves x m) → advanceOf (n - (d + 1)) (d + 1) x m ≡ advanceOf (n - d) d r s
+  unfolding advanceOf
+  goes-on h x m e = let one : n - d ≡ suc (n - (d + 1)) = omega (arith, h) in rw (one, e)
+
+  pub stops-there : d < n → (k : ℕ) → tickOf s ≡ unmoved s k → record { done = d; number = k; note = emptyRecord; simulation = s } ≡ advanceOf (n - d) d r s
+  unfolding advanceOf
+  stops-there h k e = let one : n - d ≡ suc (n - (d + 1)) = omega (arith, h) in rw (one, e)
+
+  pub all-done : n ≤ d → record { done = d; number = 0; note = r; simulation = s } ≡ advanceOf (n - d) d r s
+  unfolding advanceOf
+  all-done h = let none : n - d ≡ 0 = omega (arith, h) in rw none
+
+-- ---- one tick, and a run, as the loop's cases
+
+-- a tick that moves has the number 0
+abbrev Zero : Ticked → Type 0
+Zero t = t .moved ≡ true → t .number ≡ 0
+
+zero-number : (s : Simulation) → Zero (tickOf s)
+zero-number s = by (nowOf (fit s) (s .head) (s .network .senders)) (now-tick s _ refl)
+  where
+    of-outcome : (o : Outcome) → Zero (ticked s o)
+    of-outcome (stops k) e = absurd (true≢false (sym e))
+    of-outcome (moves x m) e = refl
+
+    by : (w : Now) → TickAs s w → Zero (tickOf s)
+    by (Now.Stop k) t = subst Zero (sym t) (of-outcome (stops k))
+    by Now.Link t = subst Zero (sym (t .1)) (of-outcome (outcomeOf s link))
+    by (Now.Sender i) t = subst Zero (sym (t .2)) (of-outcome (outcomeOf s (sender i)))
+    by (Now.Toggler i) t = subst Zero (sym (t .2)) (of-outcome (outcomeOf s (toggler i)))
+
+abbrev pub tick-told : Advanced → Ticked
+tick-told a = record { number = a .number; moved = eqb (a .done) 1; note = a .note; simulation = a .simulation }
+
+pub one-tick : (s : Simulation) (a : Advanced) → a ≡ advanceOf 1 0 emptyRecord s → tick-told a ≡ tickOf s
+unfolding advanceOf
+one-tick s a e = ap tick-told e ∙ by (tickOf s) (zero-number s) (tickOf s .moved) refl
+  where
+    told : Ticked → Advanced
+    told t = cond (t .moved) (record { done = 1; number = 0; note = t .note; simulation = t .simulation }) (record { done = 0; number = t .number; note = t .note; simulation = t .simulation })
+
+    by : (t : Ticked) → Zero t → (b : Bool) → t .moved ≡ b → tick-told (told t) ≡ t
+    by t z true e = rw (e, z e)
+    by t z false e = rw e
+
+abbrev pub run-told : Advanced → Ran
+run-told a = record { done = a .done; number = a .number; simulation = a .simulation }
+
+abbrev later : ℕ → Ran → Ran
+later d r = record { done = d + r .done; number = r .number; simulation = r .simulation }
+
+runs : (n d : ℕ) (r : TickRecord) (s : Simulation) → run-told (advanceOf n d r s) ≡ later d (runOf n s)
+unfolding advanceOf runOf
+runs zero d r s = ap (λ (k : ℕ). record { done = k; number = 0; simulation = s }) (sym (add-zero d))
+runs (suc n) d r s = by (tickOf s) (tickOf s .moved) refl (λ x m. runs n (d + 1) x m)
+  where
+    by : (t : Ticked) (b : Bool) → t .moved ≡ b → ((x : TickRecord) (m : Simulation) → run-told (advanceOf n (d + 1) x m) ≡ later (d + 1) (runOf n m))
+        → run-told (cond (t .moved) (advanceOf n (d + 1) (t .note) (t .simulation)) (record { done = d; number = t .number; note = t .note; simulation = t .simulation }))
+        ≡ later d (cond (t .moved) (oneMore (runOf n (t .simulation))) (record { done = 0; number = t .number; simulation = t .simulation }))
+    by t true e rest =
+        let more : (d + 1) + runOf n (t .simulation) .done ≡ d + (runOf n (t .simulation) .done + 1) = omega arith in
+        rw e (rest (t .note) (t .simulation) ∙ ap (λ (k : ℕ). record { done = k; number = runOf n (t .simulation) .number; simulation = runOf n (t .simulation) .simulation }) more)
+    by t false e rest = rw e (ap (λ (k : ℕ). record { done = k; number = t .number; simulation = t .simulation }) (sym (add-zero d)))
+
+pub run-is : (n : ℕ) (s : Simulation) (a : Advanced) → a ≡ advanceOf n 0 emptyRecord s → run-told a ≡ runOf n s
+run-is n s a e = ap run-told e ∙ runs n 0 emptyRecord s ∙ ap (λ (k : ℕ). record { done = k; number = runOf n s .number; simulation = runOf n s .simulation }) (zero-add (runOf n s .done))
+
+-- ---- what is in range in a fit state
+
+few-bits-of : (b : ℕ) (ps : List Packet) → b ≤ 16777216 → totalBits (λ p. b) ps ≤ length ps * 16777216
+few-bits-of b [] h = omega arith
+few-bits-of b (p ∷ ps) h = omega (arith, h, few-bits-of b ps h)
+
+pub record InPlace (s : Simulation) : Type 0 where
+  pub waiting-start : s .line .waiting .start < 512
+  pub waiting-count : s .line .waiting .count ≤ 512
+  pub on-line-start : s .line .«on_line» .start < 512
+  pub on-line-count : s .line .«on_line» .count ≤ 512
+  pub senders : s .network .senders ≤ 16
+  pub room : s .line .«buffer_contains» .0 + s .network .bits < 2 ^ 64
+
+pub in-place : (s : Simulation) → fit s ≡ true → InPlace s
+unfolding ringsFit bitsFit
+in-place s e =
+    let f = fit-state s e in
+    let a = leb (s .line .waiting .count) places in
+    let b = leb (s .line .«on_line» .count) places in
+    let c = ltb (s .line .waiting .start) places in
+    let d = ltb (s .line .«on_line» .start) places in
+    let count : s .line .waiting .count ≤ 512 = leb-true _ _ (both-l a b (both-l (a && b) c (both-l (a && b && c) d (f .rings)))) in
+    let net = accepted s f in
+    let bits : s .network .bits ≤ 16777216 = few-bits net in
+    let held : s .line .«buffer_contains» .0 ≡ totalBits (λ p. s .network .bits) (waitingItems s) = eqb-true _ _ (f .bits) in
+    let many : length (waitingItems s) ≡ s .line .waiting .count = items-length noPacket (s .waiting) (s .line .waiting) in
+    record {
+      waiting-start = ltb-true _ _ (both-r (a && b) c (both-l (a && b && c) d (f .rings)));
+      waiting-count = count;
+      on-line-start = ltb-true _ _ (both-r (a && b && c) d (f .rings));
+      on-line-count = leb-true _ _ (both-r a b (both-l (a && b) c (both-l (a && b && c) d (f .rings))));
+      senders = few-senders net;
+      room = omega (arith, count, bits, held, many, few-bits-of (s .network .bits) (waitingItems s) bits);
+    }
+
+-- the packet that leaves is its owner's
+pub own-packet : (s : Simulation) → fit s ≡ true → length (s .«on_line») ≡ 512 → (k : ℕ) → k ≡ ownerOf (frontOf s .packet)
+    → (c : LinkActed) → c ≡ linkActed (s .network) (s .line) (s .head .clock) (frontOf s) (firstOf s) → (p : Packet) → c .left ≡ Left.Out p → p .sender ≡ k
+unfolding linkActed tryDeliver isDue
+own-packet s f full k e c g p h =
+    by (leb 1 (s .line .«on_line» .count)) (eq (frontOf s .due .0 .0) (s .head .clock .0 .0)) (lt (unitOf (s .line .rng) .value) (s .network .loss)) refl (sym (ap (λ (x : LinkActed). x .left) g) ∙ h)
+  where
+    delivered : Bool → Bool → Bool → Delivered
+    delivered a b c =
+        cond (a && b) (cond c (record { left = Left.Lost (frontOf s .packet); line = departed (s .line) }) (record { left = Left.Out (frontOf s .packet); line = departed (s .line) }))
+        (record { left = Left.Nobody; line = s .line })
+
+    packet-of : Left → Packet
+    packet-of Left.Nobody = frontOf s .packet
+    packet-of (Left.Lost q) = frontOf s .packet
+    packet-of (Left.Out q) = q
+
+    is-out : Left → Bool
+    is-out Left.Nobody = false
+    is-out (Left.Lost q) = false
+    is-out (Left.Out q) = true
+
+    sound : Sound (s .«on_line») (s .line .«on_line»)
+    sound = record { full = full; start = in-place s f .on-line-start; count = in-place s f .on-line-count }
+
+    by : (a b c : Bool) → leb 1 (s .line .«on_line» .count) ≡ a → delivered a b c .left ≡ Left.Out p → p .sender ≡ k
+    by true true true n o = absurd (true≢false (sym (ap is-out o)))
+    by true true false n o =
+        let some : 0 < s .line .«on_line» .count = leb-true 1 _ n in
+        let one : frontOf s .packet .sender < 16 = omega (arith, front-sender s (fit-state s f) sound some, in-place s f .senders) in
+        ap (λ (q : Packet). q .sender) (sym (ap packet-of o)) ∙ sym (e ∙ rw (lt-ltb _ _ one))
+    by true false c n o = absurd (true≢false (sym (ap is-out o)))
+    by false b c n o = absurd (true≢false (sym (ap is-out o)))
+
+-- ---- lengths
+
+pub as-long : {A : Type 0} (l : List A) (n : ℕ) → length l ≡ n → (i : ℕ) (x : A) → length (set l i x) ≡ n
+as-long l n full i x = length-set l i x ∙ full
+
+pub thrice : (queue : List Queued) → length queue ≡ 33 → (i : ℕ) (x : Queued) (j : ℕ) (y : Queued) (k : ℕ) (z : Queued) → length (set (set (set queue i x) j y) k z) ≡ 33
+thrice queue full i x j y k z = as-long (set (set queue i x) j y) 33 (as-long (set queue i x) 33 (as-long queue 33 full i x) j y) k z
+
+-- the picked part is a place of the queue, also where two places were stored anew
+pub picked-small : (queue : List Queued) → length queue ≡ 33 → (i : ℕ) (x : Queued) (j : ℕ) (y : Queued) (q : Picked) → q ≡ pickOf (set (set queue i x) j y) → q .part < 33
+picked-small queue full i x j y q e = part-inside (set (set queue i x) j y) q e (as-long (set queue i x) 33 (as-long queue 33 full i x) j y)

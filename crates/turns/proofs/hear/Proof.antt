@@ -1,0 +1,88 @@
+-- Each return rewrites by the tests and the cases that led there. Assumes nothing.
+use Rattle.turns.specs.Turns.{heardBy}
+use borrow.Author.Needs.{needs}
+use Rattle.turns.proofs.hear.Statement.{statement}
+use Rattle.turns.proofs.hear.Tie as tie
+
+enum-told : tie.Need-enum-told
+enum-told c = search needs
+
+enum-told-2 : tie.Need-enum-told-2
+enum-told-2 c = search needs
+
+enum-known-left : tie.Need-enum-known-left
+enum-known-left c = search needs
+
+receive-packet-requires : tie.Need-receive-packet-requires
+receive-packet-requires c κs = search needs
+
+enum-told-3 : tie.Need-enum-told-3
+enum-told-3 c = search needs
+
+enum-told-4 : tie.Need-enum-told-4
+enum-told-4 c = search needs
+
+enum-told-5 : tie.Need-enum-told-5
+enum-told-5 c = search needs
+
+sub-requires : tie.Need-sub-requires
+sub-requires c κs = search needs
+
+packet-received-requires : tie.Need-packet-received-requires
+packet-received-requires c κs = search needs
+
+returns : tie.Need-returns
+unfolding heardBy
+returns c = rw (c .enum-told .given .1)
+
+returns-2 : tie.Need-returns-2
+unfolding heardBy
+returns-2 c = rw (c .enum-told2 .given .1)
+
+returns-3 : tie.Need-returns-3
+unfolding heardBy
+returns-3 c =
+    rw (
+      c .before .before .before .before .before .left .given .1,
+      ← c .before .before .before .receive-packet .ensures,
+      c .enum-told3 .given .1,
+    )
+
+returns-4 : tie.Need-returns-4
+unfolding heardBy
+returns-4 c =
+    rw (
+      c .before .before .before .before .before .left .given .1,
+      ← c .before .before .before .receive-packet .ensures,
+      c .enum-told4 .given .1,
+    )
+
+returns-5 : tie.Need-returns-5
+unfolding heardBy
+returns-5 c =
+    rw (
+      c .before .packet-received .ensures,
+      c .before .before .sub .ensures,
+      c .before .before .before .before .before .before .before .before .left .given .1,
+      ← c .before .before .before .before .before .before .receive-packet .ensures,
+      c .before .before .before .enum-told5 .given .1,
+    )
+
+pub hear-spec : {M : Type 1} → statement M
+hear-spec =
+    tie.close
+    (tie.spec
+    enum-told
+    enum-told-2
+    enum-known-left
+    receive-packet-requires
+    enum-told-3
+    enum-told-4
+    enum-told-5
+    sub-requires
+    packet-received-requires
+    returns
+    returns-2
+    returns-3
+    returns-4
+    returns-5)

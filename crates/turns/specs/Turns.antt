@@ -1,0 +1,172 @@
+-- The pieces of a tick that the loop of ticks calls, on small structs. Definitions only; the crate simulation proves that together they are the tick definition.
+use Prim.Native.Nat.{ℕ, _+_, _*_}
+use mathlib.Core.Bool.{Bool, true, false, cond}
+use lib.Dec.{ltb}
+use lib.Ieee.{lt}
+use Rattle.quantities.specs.declared.time.Time.{Time}
+use Rattle.quantities.specs.declared.time.OptionTime.{OptionTime}
+use Rattle.quantities.specs.declared.time.OptionTime.the-variants as Option
+use Rattle.quantities.specs.Doubles.{power}
+use Rattle.quantities.specs.Units.{spanOf, rateOf, amountOf, since}
+use Rattle.meters.specs.declared.meter.AverageFlowMeter.{AverageFlowMeter}
+use Rattle.meters.specs.Meter.{recordedOf}
+use Rattle.components.specs.declared.packet.Packet.{Packet}
+use Rattle.components.specs.declared.packet.Transit.{Transit}
+use Rattle.components.specs.declared.link.Limit.{Limit}
+use Rattle.components.specs.declared.link.Line.{Line}
+use Rattle.components.specs.declared.link.Arrival.{Arrival}
+use Rattle.components.specs.declared.link.Left.{Left}
+use Rattle.components.specs.declared.link.Left.the-variants as Left
+use Rattle.components.specs.declared.link.Begun.{Begun}
+use Rattle.components.specs.declared.link.Begun.the-variants as Begun
+use Rattle.components.specs.declared.link.Delivered.{Delivered}
+use Rattle.components.specs.declared.link.Transmitted.{Transmitted}
+use Rattle.components.specs.declared.lossy.Policy.{Policy}
+use Rattle.components.specs.declared.lossy.Enabled.{Enabled}
+use Rattle.components.specs.declared.lossy.SenderState.{SenderState}
+use Rattle.components.specs.declared.lossy.SenderState.the-variants as State
+use Rattle.components.specs.declared.lossy.LossySender.{LossySender}
+use Rattle.components.specs.declared.lossy.TimerTicked.{TimerTicked}
+use Rattle.components.specs.declared.lossy.Sent.{Sent}
+use Rattle.components.specs.declared.lossy.Heard.{Heard}
+use Rattle.components.specs.declared.lossy.Heard.the-variants as Heard
+use Rattle.components.specs.declared.lossy.Returned.{Returned}
+use Rattle.components.specs.declared.toggler.Toggler.{Toggler}
+use Rattle.components.specs.declared.tick_queue.Queued.{Queued}
+use Rattle.components.specs.Ring.{placeAfter}
+use Rattle.components.specs.Link.{receiveOf, nextTick, tryDeliver, tryTransmit}
+use Rattle.components.specs.Sender.{timerDue, tickTimer, tickSend, enabledOf, disabledOf, senderNext, returnedOf}
+use Rattle.components.specs.Queue.{noQueued}
+use Rattle.remy.specs.declared.network.RemyNetwork.{RemyNetwork}
+use Rattle.remy.specs.declared.simulation.Next.{Next}
+use Rattle.remy.specs.declared.simulation.Next.the-variants as Next
+use Rattle.remy.specs.declared.simulation.Head.{Head}
+use Rattle.remy.specs.declared.simulation.Mark.{Mark}
+use Rattle.remy.specs.declared.simulation.Mark.the-variants as Mark
+use Rattle.remy.specs.declared.simulation.Name.{Name}
+use Rattle.remy.specs.declared.simulation.Name.the-variants as Name
+use Rattle.remy.specs.declared.simulation.TickRecord.{TickRecord}
+use Rattle.remy.specs.State.{Role, link, sender, toggler, nobody, senderPart, togglerPart, roleOf}
+use Rattle.remy.specs.Tick.{named, begunName, enabledSender, heardMark, switchMark}
+use Rattle.turns.specs.declared.Now.{Now}
+use Rattle.turns.specs.declared.Now.the-variants as Now
+use Rattle.turns.specs.declared.LinkActed.{LinkActed}
+use Rattle.turns.specs.declared.Hearing.{Hearing}
+use Rattle.turns.specs.declared.Sending.{Sending}
+use Rattle.turns.specs.declared.Sending.the-variants as Sending
+use Rattle.turns.specs.declared.SenderActed.{SenderActed}
+use Rattle.turns.specs.declared.Arriving.{Arriving}
+
+-- ---- whose turn it is
+
+abbrev pub nowRole : Role → Now
+nowRole link = Now.Link
+nowRole (sender i) = Now.Sender i
+nowRole (toggler i) = Now.Toggler i
+nowRole nobody = Now.Stop 9
+
+abbrev pub nowNext : Next → Time → ℕ → Now
+nowNext Next.None clock n = Now.Stop 0
+nowNext (Next.Part k) clock n = cond (lt (power 40) (clock .0 .0)) (Now.Stop 10) (nowRole (roleOf n k))
+
+unfoldable pub nowOf : Bool → Head → ℕ → Now
+nowOf fit h n = cond fit (nowNext (h .next) (h .clock) n) (Now.Stop 9)
+
+-- ---- the link
+
+abbrev pub ownerOf : Packet → ℕ
+ownerOf p = cond (ltb (p .sender) 16) (p .sender) 0
+
+abbrev pub linkTook : Delivered → Transmitted → LinkActed
+linkTook d t = record { number = t .number; left = d .left; begun = t .begun; at = placeAfter (d .line .«on_line»); line = t .line }
+
+unfoldable pub linkActed : RemyNetwork → Line → Time → Transit → Packet → LinkActed
+linkActed n l clock front first =
+    let d = tryDeliver l clock front (n .loss) in
+    linkTook d (tryTransmit (d .line) clock first (spanOf (n .delay)) (rateOf (n .rate)) (amountOf (n .bits)))
+
+abbrev pub onLineAt : Begun → Transit → Transit
+onLineAt Begun.Nobody old = old
+onLineAt (Begun.Starts x) old = x
+
+abbrev pub heardMeterOf : RemyNetwork → Time → Packet → AverageFlowMeter → Heard → AverageFlowMeter
+heardMeterOf n clock p m Heard.Ignored = m
+heardMeterOf n clock p m Heard.Old = m
+heardMeterOf n clock p m Heard.Counted = recordedOf m (amountOf (n .bits)) (since clock (p .«sent_time»)) clock .meter
+
+abbrev pub heardWith : RemyNetwork → Time → Packet → AverageFlowMeter → Returned → Hearing
+heardWith n clock p m r = record { heard = true; mark = heardMark (r .heard); sender = r .sender; meter = heardMeterOf n clock p m (r .heard) }
+
+unfoldable pub heardBy : RemyNetwork → Time → Left → LossySender → AverageFlowMeter → Hearing
+heardBy n clock Left.Nobody x m = record { heard = false; mark = Mark.None; sender = x; meter = m }
+heardBy n clock (Left.Lost p) x m = record { heard = false; mark = Mark.Lost; sender = x; meter = m }
+heardBy n clock (Left.Out p) x m = heardWith n clock p m (returnedOf (n .policy) x p)
+
+abbrev pub leftName : Left → Name
+leftName Left.Nobody = Name.None
+leftName (Left.Lost p) = named p
+leftName (Left.Out p) = named p
+
+abbrev pub linkNote : Time → Left → Begun → Mark → TickRecord
+linkNote clock left begun mark = record { time = clock; part = 0; mark = mark; packet = leftName left; started = begunName begun }
+
+-- ---- places in the queue
+
+abbrev pub linkSlot : Bool → Line → Time → Transit → Queued → Queued
+linkSlot changed l clock front old = cond changed (record { time = nextTick l clock (front .due) }) old
+
+abbrev pub senderSlot : Bool → LossySender → Time → Queued → Queued
+senderSlot changed x clock old = cond changed (record { time = senderNext x clock }) old
+
+abbrev pub togglerSlot : Toggler → Queued
+togglerSlot t = record { time = Option.Some (t .«next_toggle») }
+
+abbrev pub placeAfterPick : OptionTime → Queued → Queued
+placeAfterPick Option.None old = old
+placeAfterPick (Option.Some t) old = noQueued
+
+-- ---- a sender
+
+abbrev pub timerTook : LossySender → TimerTicked → SenderActed
+timerTook x t = record { number = t .number; sending = Sending.Timer; sender = enabledSender x (x .«packets_sent») (t .enabled) }
+
+abbrev pub sendTook : LossySender → Sent → SenderActed
+sendTook x t = record { number = t .number; sending = Sending.Packet (t .packet); sender = enabledSender x (t .«packets_sent») (t .enabled) }
+
+abbrev pub senderTook : RemyNetwork → Time → LossySender → ℕ → SenderState → SenderActed
+senderTook n clock x i State.WaitingForEnable = record { number = 9; sending = Sending.Timer; sender = x }
+senderTook n clock x i (State.Enabled e) =
+    cond (timerDue e clock) (timerTook x (tickTimer (n .policy) e clock)) (sendTook x (tickSend (x .«packets_sent») (n .policy) e clock i))
+
+unfoldable pub senderActed : RemyNetwork → Time → LossySender → ℕ → SenderActed
+senderActed n clock x i = senderTook n clock x i (x .state)
+
+abbrev pub arrivedWith : Line → Arrival → Arriving
+arrivedWith l a =
+    record { number = a .number; arrives = true; admitted = a .admitted; at = placeAfter (l .waiting); mark = cond (a .admitted) Mark.Sent Mark.Full; line = a .line }
+
+unfoldable pub arrivedAt : Limit → ℕ → Line → Sending → Arriving
+arrivedAt limit bits l Sending.Timer = record { number = 0; arrives = false; admitted = false; at = placeAfter (l .waiting); mark = Mark.Timer; line = l }
+arrivedAt limit bits l (Sending.Packet p) = arrivedWith l (receiveOf limit l (amountOf bits))
+
+abbrev pub sentPacket : Sending → Packet → Packet
+sentPacket Sending.Timer old = old
+sentPacket (Sending.Packet p) old = p
+
+abbrev pub waitingAt : Bool → Sending → Packet → Packet
+waitingAt admitted sending old = cond admitted (sentPacket sending old) old
+
+abbrev pub sendingName : Sending → Name
+sendingName Sending.Timer = Name.None
+sendingName (Sending.Packet p) = named p
+
+abbrev pub senderNote : Time → ℕ → Sending → Mark → TickRecord
+senderNote clock i sending mark = record { time = clock; part = senderPart i; mark = mark; packet = sendingName sending; started = Name.None }
+
+-- ---- a toggler
+
+abbrev pub switchedTo : Policy → Bool → LossySender → Time → LossySender
+switchedTo policy on x clock = cond on (enabledOf policy x clock) (disabledOf x)
+
+abbrev pub togglerNote : Time → ℕ → Bool → TickRecord
+togglerNote clock i on = record { time = clock; part = togglerPart i; mark = cond on Mark.Enabled Mark.Disabled; packet = Name.None; started = Name.None }

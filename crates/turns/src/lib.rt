@@ -1,0 +1,495 @@
+// What a part does in its turn, as functions on small structs: the loop of ticks reads the elements
+// that a turn needs, calls these, and stores what they give. Each is a piece of the tick definition.
+//
+// All functions here are helpers for the crate `simulation`, and no entry points; some demand that
+// the rings are in range, which the fit test has shown.
+ghost use mathlib.Core.Path.{_≡_};
+ghost use mathlib.Core.Bool.{cond};
+ghost use Prim.Native.Nat.{_+_, _*_, _≤_, _<_, _^_};
+ghost use Rattle.remy.specs.State.{roleOf};
+ghost use Rattle.remy.specs.Queue.{headOf};
+ghost use Rattle.remy.specs.Tick.{emptyRecord, begunName};
+ghost use Rattle.turns.specs.Turns.{nowRole, nowOf, leftName, ownerOf, linkActed, onLineAt, heardBy, linkNote, linkSlot, senderSlot, senderActed, arrivedAt, waitingAt, senderNote, switchedTo, togglerNote, togglerSlot, placeAfterPick};
+use components::Begun;
+use components::Heard;
+use components::Left;
+use components::Limit;
+use components::Line;
+use components::LossySender;
+use components::Packet;
+use components::Picked;
+use components::Policy;
+use components::Queued;
+use components::SenderState;
+use components::Toggler;
+use components::Transit;
+use meters::AverageFlowMeter;
+use quantities::Information;
+use quantities::InformationRate;
+use quantities::OptionTime;
+use quantities::Time;
+use quantities::TimeSpan;
+use remy::Head;
+use remy::Mark;
+use remy::Name;
+use remy::Next;
+use remy::RemyNetwork;
+use remy::TickRecord;
+
+// Whose turn it is: a part's, or nobody's with the number of the stop (0 for idle).
+pub enum Now {
+    Stop(u32),
+    Link,
+    Sender(usize),
+    Toggler(usize),
+}
+
+// What the link did: the number, the packet that left, the packet that started with its place, and
+// the line.
+pub struct LinkActed {
+    pub number: u32,
+    pub left: Left,
+    pub begun: Begun,
+    pub at: usize,
+    pub line: Line,
+}
+
+// What came of the packet that left: whether a sender heard of it, the mark, the sender, its meter.
+pub struct Hearing {
+    pub heard: bool,
+    pub mark: Mark,
+    pub sender: LossySender,
+    pub meter: AverageFlowMeter,
+}
+
+// What a sender's tick was: its timer, or a packet.
+pub enum Sending {
+    Timer,
+    Packet(Packet),
+}
+
+pub struct SenderActed {
+    pub number: u32,
+    pub sending: Sending,
+    pub sender: LossySender,
+}
+
+// What came of it at the link: the number, whether a packet arrived, whether it was admitted and
+// where, the mark, and the line.
+pub struct Arriving {
+    pub number: u32,
+    pub arrives: bool,
+    pub admitted: bool,
+    pub at: usize,
+    pub mark: Mark,
+    pub line: Line,
+}
+
+// 9, idle and 10, and then the part by its number.
+pub fn whose_turn(fit: bool, head: Head, senders: u32) -> Now
+    ensures { λ r. ⌜ r ≡ nowOf fit head senders ⌝ }
+{
+    if !fit {
+        return Now::Stop(9);
+    }
+    let next = head.next;
+    let Next::Part(k) = next else {
+        return Now::Stop(0);
+    };
+    if 1099511627776.0 < head.clock.0.0 {
+        return Now::Stop(10);
+    }
+    role(k, senders)
+}
+
+fn role(k: usize, senders: u32) -> Now
+    ensures { λ r. ⌜ r ≡ nowRole (roleOf senders k) ⌝ }
+{
+    if k == 0 {
+        return Now::Link;
+    }
+    let i = (k - 1) / 2;
+    if i < senders as usize {
+        if k % 2 == 1 {
+            Now::Sender(i)
+        } else {
+            Now::Toggler(i)
+        }
+    } else {
+        Now::Stop(9)
+    }
+}
+
+// The sender of a packet, as an index that is there.
+pub fn owner(packet: Packet) -> usize
+    ensures { λ r. ⌜ r ≡ ownerOf packet ⌝ }
+{
+    if packet.sender < 16 {
+        packet.sender as usize
+    } else {
+        0
+    }
+}
+
+// The link's turn: first the packet that leaves, then the packet that starts.
+pub fn link_acts(
+    network: RemyNetwork,
+    line: Line,
+    clock: Time,
+    front: Transit,
+    first: Packet,
+) -> LinkActed
+    requires { ⌜ (line .waiting .start < 512) × (line .«on_line» .start < 512) × (line .«on_line» .count ≤ 512) ⌝ }
+    ensures { λ r. ⌜ r ≡ linkActed network line clock front first ⌝ }
+{
+    let d = components::link::try_deliver(line, clock, front, network.loss);
+    let left = d.left;
+    let on_line = d.line.on_line;
+    let at = on_line.end();
+    let delay = TimeSpan(network.delay);
+    let rate = InformationRate(network.rate);
+    let t = components::link::try_transmit(
+        d.line,
+        clock,
+        first,
+        delay,
+        rate,
+        Information(network.bits),
+    );
+    let begun = t.begun;
+    let line = t.line;
+    LinkActed {
+        number: t.number,
+        left,
+        begun,
+        at,
+        line,
+    }
+}
+
+// What a place of the line holds then.
+pub fn on_line_at(begun: Begun, old: Transit) -> Transit
+    ensures { λ r. ⌜ r ≡ onLineAt begun old ⌝ }
+{
+    match begun {
+        Begun::Nobody => old,
+        Begun::Starts(x) => x,
+    }
+}
+
+// The packet that left comes to its sender, if it was not lost; a counted one goes into the meter.
+pub fn hear(
+    network: RemyNetwork,
+    clock: Time,
+    left: Left,
+    sender: LossySender,
+    meter: AverageFlowMeter,
+) -> Hearing
+    ensures { λ r. ⌜ r ≡ heardBy network clock left sender meter ⌝ }
+{
+    match left {
+        Left::Nobody => Hearing {
+            heard: false,
+            mark: Mark::None,
+            sender,
+            meter,
+        },
+        Left::Lost(_) => Hearing {
+            heard: false,
+            mark: Mark::Lost,
+            sender,
+            meter,
+        },
+        Left::Out(p) => {
+            let policy = network.policy;
+            let r = sender.receive_packet(policy, p);
+            let heard = r.heard;
+            let sender = r.sender;
+            match heard {
+                Heard::Ignored => Hearing {
+                    heard: true,
+                    mark: Mark::Ignored,
+                    sender,
+                    meter,
+                },
+                Heard::Old => Hearing {
+                    heard: true,
+                    mark: Mark::Old,
+                    sender,
+                    meter,
+                },
+                Heard::Counted => {
+                    let rtt = clock.sub(p.sent_time);
+                    let m = meter.packet_received(Information(network.bits), rtt, clock);
+                    let meter = m.meter;
+                    Hearing {
+                        heard: true,
+                        mark: Mark::Counted,
+                        sender,
+                        meter,
+                    }
+                }
+            }
+        }
+    }
+}
+
+pub fn link_note(clock: Time, left: Left, begun: Begun, mark: Mark) -> TickRecord
+    ensures { λ r. ⌜ r ≡ linkNote clock left begun mark ⌝ }
+{
+    let packet = left_name(left);
+    let started = begun_name(begun);
+    TickRecord {
+        time: clock,
+        part: 0,
+        mark,
+        packet,
+        started,
+    }
+}
+
+fn left_name(left: Left) -> Name
+    ensures { λ r. ⌜ r ≡ leftName left ⌝ }
+{
+    match left {
+        Left::Nobody => Name::None,
+        Left::Lost(p) => Name::Packet(p.sender, p.seq),
+        Left::Out(p) => Name::Packet(p.sender, p.seq),
+    }
+}
+
+fn begun_name(begun: Begun) -> Name
+    ensures { λ r. ⌜ r ≡ begunName begun ⌝ }
+{
+    match begun {
+        Begun::Nobody => Name::None,
+        Begun::Starts(x) => Name::Packet(x.packet.sender, x.packet.seq),
+    }
+}
+
+// The link's place in the queue, and a sender's: anew where something changed, else as it was.
+pub fn link_slot(changed: bool, line: Line, clock: Time, front: Transit, old: Queued) -> Queued
+    ensures { λ r. ⌜ r ≡ linkSlot changed line clock front old ⌝ }
+{
+    if !changed {
+        return old;
+    }
+    let time = components::link::next_tick(line, clock, front.due);
+    Queued { time }
+}
+
+pub fn sender_slot(changed: bool, sender: LossySender, clock: Time, old: Queued) -> Queued
+    ensures { λ r. ⌜ r ≡ senderSlot changed sender clock old ⌝ }
+{
+    if !changed {
+        return old;
+    }
+    let time = sender.next_tick(clock);
+    Queued { time }
+}
+
+// A sender's turn: a timer equal to the clock goes first and alone; else one packet.
+pub fn sender_acts(network: RemyNetwork, clock: Time, sender: LossySender, i: usize) -> SenderActed
+    requires { ⌜ i < 16 ⌝ }
+    ensures { λ r. ⌜ r ≡ senderActed network clock sender i ⌝ }
+{
+    let state = sender.state;
+    let SenderState::Enabled(enabled) = state else {
+        return SenderActed {
+            number: 9,
+            sending: Sending::Timer,
+            sender,
+        };
+    };
+    let policy = network.policy;
+    let sent = sender.packets_sent;
+    let rng = sender.rng;
+    if enabled.timer_due(clock) {
+        let t = enabled.tick_timer(policy, clock);
+        let after = t.enabled;
+        let sender = LossySender {
+            packets_sent: sent,
+            state: SenderState::Enabled(after),
+            rng,
+        };
+        return SenderActed {
+            number: t.number,
+            sending: Sending::Timer,
+            sender,
+        };
+    }
+    let t = enabled.tick_send(sent, policy, clock, i as u32);
+    let after = t.enabled;
+    let packet = t.packet;
+    let sender = LossySender {
+        packets_sent: t.packets_sent,
+        state: SenderState::Enabled(after),
+        rng,
+    };
+    SenderActed {
+        number: t.number,
+        sending: Sending::Packet(packet),
+        sender,
+    }
+}
+
+// The packet that was sent arrives at the link.
+pub fn arrive(limit: Limit, bits: u64, line: Line, sending: Sending) -> Arriving
+    requires { ⌜ (line .waiting .start < 512) × (line .waiting .count ≤ 512) × (line .«buffer_contains» .0 + bits < 2 ^ 64) ⌝ }
+    ensures { λ r. ⌜ r ≡ arrivedAt limit bits line sending ⌝ }
+{
+    let at = line.waiting.end();
+    let Sending::Packet(_) = sending else {
+        return Arriving {
+            number: 0,
+            arrives: false,
+            admitted: false,
+            at,
+            mark: Mark::Timer,
+            line,
+        };
+    };
+    let a = components::link::receive(limit, line, Information(bits));
+    let line = a.line;
+    if a.admitted {
+        Arriving {
+            number: a.number,
+            arrives: true,
+            admitted: true,
+            at,
+            mark: Mark::Sent,
+            line,
+        }
+    } else {
+        Arriving {
+            number: a.number,
+            arrives: true,
+            admitted: false,
+            at,
+            mark: Mark::Full,
+            line,
+        }
+    }
+}
+
+// What a place of the queue of packets holds then.
+pub fn waiting_at(admitted: bool, sending: Sending, old: Packet) -> Packet
+    ensures { λ r. ⌜ r ≡ waitingAt admitted sending old ⌝ }
+{
+    if !admitted {
+        return old;
+    }
+    match sending {
+        Sending::Timer => old,
+        Sending::Packet(p) => p,
+    }
+}
+
+pub fn sender_note(clock: Time, i: usize, sending: Sending, mark: Mark) -> TickRecord
+    requires { ⌜ i < 16 ⌝ }
+    ensures { λ r. ⌜ r ≡ senderNote clock i sending mark ⌝ }
+{
+    let part = 1 + 2 * i;
+    match sending {
+        Sending::Timer => TickRecord {
+            time: clock,
+            part,
+            mark,
+            packet: Name::None,
+            started: Name::None,
+        },
+        Sending::Packet(p) => TickRecord {
+            time: clock,
+            part,
+            mark,
+            packet: Name::Packet(p.sender, p.seq),
+            started: Name::None,
+        },
+    }
+}
+
+// A sender that its toggler switches.
+pub fn switched(policy: Policy, on: bool, sender: LossySender, clock: Time) -> LossySender
+    ensures { λ r. ⌜ r ≡ switchedTo policy on sender clock ⌝ }
+{
+    if on {
+        sender.enable(policy, clock)
+    } else {
+        sender.disable()
+    }
+}
+
+pub fn toggler_note(clock: Time, i: usize, on: bool) -> TickRecord
+    requires { ⌜ i < 16 ⌝ }
+    ensures { λ r. ⌜ r ≡ togglerNote clock i on ⌝ }
+{
+    let part = 2 + 2 * i;
+    if on {
+        TickRecord {
+            time: clock,
+            part,
+            mark: Mark::Enabled,
+            packet: Name::None,
+            started: Name::None,
+        }
+    } else {
+        TickRecord {
+            time: clock,
+            part,
+            mark: Mark::Disabled,
+            packet: Name::None,
+            started: Name::None,
+        }
+    }
+}
+
+pub fn toggler_slot(toggler: Toggler) -> Queued
+    ensures { λ r. ⌜ r ≡ togglerSlot toggler ⌝ }
+{
+    let at = toggler.next_toggle;
+    let time = OptionTime::Some(at);
+    Queued { time }
+}
+
+// The clock and the next part after a pick.
+pub fn head_of(best: Picked) -> Head
+    ensures { λ r. ⌜ r ≡ headOf best (best .time) ⌝ }
+{
+    let time = best.time;
+    match time {
+        OptionTime::None => Head {
+            clock: Time(TimeSpan(1.7976931348623157e308)),
+            next: Next::None,
+        },
+        OptionTime::Some(clock) => Head {
+            clock,
+            next: Next::Part(best.part),
+        },
+    }
+}
+
+// The picked place after a pick: removed, if anything was picked.
+pub fn place_after(best: Picked, old: Queued) -> Queued
+    ensures { λ r. ⌜ r ≡ placeAfterPick (best .time) old ⌝ }
+{
+    let time = best.time;
+    match time {
+        OptionTime::None => old,
+        OptionTime::Some(_) => Queued {
+            time: OptionTime::None,
+        },
+    }
+}
+
+// The record of a tick that did not move.
+pub fn empty_record() -> TickRecord
+    ensures { λ r. ⌜ r ≡ emptyRecord ⌝ }
+{
+    TickRecord {
+        time: Time(TimeSpan(0.0)),
+        part: 0,
+        mark: Mark::None,
+        packet: Name::None,
+        started: Name::None,
+    }
+}
