@@ -1,0 +1,66 @@
+-- The loop counts up to the count, and a slot is below 512. Assumes nothing.
+use Prim.Native.Nat.{_-_, _≤_}
+use borrow.Author.Needs.{needs}
+use Rattle.held.proofs.waiting.Statement.{statement}
+use Rattle.held.proofs.waiting.Tie as tie
+
+abbrev Inv-loop : tie.InvT-loop
+Inv-loop start count slots k₀ k = k ≤ count
+
+abbrev μ-loop : tie.MeasureT-loop
+μ-loop start count slots k₀ k = count - k
+
+slice-aggregate-put : tie.Need-slice-aggregate-put Inv-loop μ-loop
+slice-aggregate-put c = search needs
+
+put-requires : tie.Need-put-requires Inv-loop μ-loop
+put-requires c κs = search needs
+
+loop-holds : tie.Need-loop-holds Inv-loop μ-loop
+loop-holds c = search needs
+
+separate-requires : tie.Need-separate-requires Inv-loop μ-loop
+separate-requires c κs = search needs
+
+slot-requires : tie.Need-slot-requires Inv-loop μ-loop
+slot-requires c κs = search needs
+
+mul-p : tie.Need-mul-p Inv-loop μ-loop
+mul-p c = search needs
+
+array-copy-out-p : tie.Need-array-copy-out-p Inv-loop μ-loop
+array-copy-out-p c = search needs
+
+packet-requires : tie.Need-packet-requires Inv-loop μ-loop
+packet-requires c κs = search needs
+
+add-k : tie.Need-add-k Inv-loop μ-loop
+add-k c = search needs
+
+loop-less : tie.Need-loop-less Inv-loop μ-loop
+loop-less c = search needs
+
+loop-again : tie.Need-loop-again Inv-loop μ-loop
+loop-again c = search needs
+
+returns : tie.Need-returns Inv-loop μ-loop
+returns c = search needs
+
+pub waiting-spec : {M : Type 1} → statement M
+waiting-spec =
+    tie.close
+    (tie.spec
+    Inv-loop
+    μ-loop
+    slice-aggregate-put
+    put-requires
+    loop-holds
+    separate-requires
+    slot-requires
+    mul-p
+    array-copy-out-p
+    packet-requires
+    add-k
+    loop-less
+    loop-again
+    returns)
