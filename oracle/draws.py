@@ -103,4 +103,5 @@ def main():
     show_all((0.0, largest, -largest, 11200 / 3.0, float(2**53 + 1) / 1.0, 8 / 0.1))
 
 
-main()
+if __name__ == "__main__":
+    main()

@@ -1,14 +1,18 @@
 #!/usr/bin/env python3
 """The recorded held states and the port's program `held`.
 
-held.py stdin             the descriptions of recorded/held.txt as crates/held/stdin has them
-held.py stdout            the Rust's lines for them, as crates/held/stdout has them
+held.py stdin             the program's script, as crates/held/stdin has it: the descriptions of
+                          recorded/held.txt and recorded/digest.txt, and the stops of stops.py
+held.py stdout            its answers, as crates/held/stdout has them: the Rust's recorded lines, a
+                          digest of the Rust's recorded lines, and what document 01 says
 held.py compare PROGRAM   runs the program on every description of recorded/digest.txt and compares
                           its lines with the Rust's, state lines by their digests
 """
 import os
 import subprocess
 import sys
+
+import stops
 
 HERE = os.path.dirname(os.path.abspath(__file__))
 POLICIES = {"held": 0, "grown": 1, "timed": 2}
@@ -41,19 +45,19 @@ def policy(text):
     return [word(POLICIES[kind]), word(first), word(most), gap]
 
 
-def line(d):
+def line(d, letter="H"):
     """A description as a line of the program's input."""
     limit = "-" * 16 if d["limit"] == "none" else word(d["limit"])
     fields = [d["delay"], d["rate"], d["loss"], limit, word(d["bits"]), word(d["senders"])]
     fields += distribution(d["on"]) + distribution(d["off"]) + policy(d["policy"])
-    return "H " + " ".join(fields + [word(d["seed"]), word(d["ticks"])])
+    return letter + " " + " ".join(fields + [word(d["seed"]), word(d["ticks"])])
 
 
 def digest(text):
     h = 0xCBF29CE484222325
     for b in text.encode():
         h = (h ^ b) * 0x100000001B3 % 2**64
-    return f"digest {h:016x}"
+    return f"{h:016x}"
 
 
 def compare(program):
@@ -62,7 +66,7 @@ def compare(program):
     for name, description, rust in cases("digest.txt"):
         done = subprocess.run([program], input=(line(description) + "\n").encode(), stdout=subprocess.PIPE, check=True)
         lines = done.stdout.decode().strip("\n").split("\n")
-        if [digest(l) if l.startswith("state ") else l for l in lines] == rust:
+        if ["digest " + digest(l) if l.startswith("state ") else l for l in lines] == rust:
             same += 1
         else:
             differ.append(name)
@@ -75,9 +79,19 @@ def main():
         for name, description, _ in cases("held.txt"):
             print("#", name)
             print(line(description))
+        for name, description, _ in cases("digest.txt"):
+            print("#", name)
+            print(line(description, "D"))
+        for name, commands, _ in stops.cases():
+            print("#", name)
+            print("\n".join(commands))
     elif sys.argv[1:] == ["stdout"]:
         for _, _, rust in cases("held.txt"):
             print("\n".join(rust) + "\n")
+        for _, _, rust in cases("digest.txt"):
+            print("lines " + digest("\n".join(rust) + "\n"))
+        for _, _, answers in stops.cases():
+            print("\n".join(answers))
     elif len(sys.argv) == 3 and sys.argv[1] == "compare":
         sys.exit(compare(sys.argv[2]))
     else:

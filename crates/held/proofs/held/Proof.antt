@@ -5,13 +5,13 @@ use Rattle.held.proofs.held.Statement.{statement}
 use Rattle.held.proofs.held.Tie as tie
 
 abbrev Inv-loop : tie.InvT-loop
-Inv-loop ticks st₀ number₀ left₀ t8 t9 t10 st number left = left ≡ left
+Inv-loop ticks st₀ number₀ left₀ o₀ t12 t13 t14 st number left o = left ≡ left
 
 abbrev μ-loop : tie.MeasureT-loop
-μ-loop ticks st₀ number₀ left₀ t8 t9 t10 st number left = left
+μ-loop ticks st₀ number₀ left₀ o₀ t12 t13 t14 st number left o = left
 
-state-requires : tie.Need-state-requires Inv-loop μ-loop
-state-requires c κs = search needs
+state-line-requires : tie.Need-state-line-requires Inv-loop μ-loop
+state-line-requires c κs = search needs
 
 loop-holds : tie.Need-loop-holds Inv-loop μ-loop
 loop-holds c = search needs
@@ -25,8 +25,8 @@ cast-number c = search needs
 record-requires : tie.Need-record-requires Inv-loop μ-loop
 record-requires c κs = search needs
 
-state-requires-2 : tie.Need-state-requires-2 Inv-loop μ-loop
-state-requires-2 c κs = search needs
+state-line-requires-2 : tie.Need-state-line-requires-2 Inv-loop μ-loop
+state-line-requires-2 c κs = search needs
 
 sub-left : tie.Need-sub-left Inv-loop μ-loop
 sub-left c = search needs
@@ -37,8 +37,8 @@ loop-less c = search needs
 loop-again : tie.Need-loop-again Inv-loop μ-loop
 loop-again c = search needs
 
-state-requires-3 : tie.Need-state-requires-3 Inv-loop μ-loop
-state-requires-3 c κs = search needs
+state-line-requires-3 : tie.Need-state-line-requires-3 Inv-loop μ-loop
+state-line-requires-3 c κs = search needs
 
 loop-less-2 : tie.Need-loop-less-2 Inv-loop μ-loop
 loop-less-2 c = search needs
@@ -85,16 +85,16 @@ held-spec =
     (tie.spec
     Inv-loop
     μ-loop
-    state-requires
+    state-line-requires
     loop-holds
     tick-requires
     cast-number
     record-requires
-    state-requires-2
+    state-line-requires-2
     sub-left
     loop-less
     loop-again
-    state-requires-3
+    state-line-requires-3
     loop-less-2
     loop-again-2
     slice-aggregate-put

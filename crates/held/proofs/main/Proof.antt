@@ -1,10 +1,10 @@
--- The text read is a part of the buffer. Assumes nothing.
+-- The calls ask for nothing. Assumes nothing.
 use borrow.Author.Needs.{needs}
 use Rattle.held.proofs.main.Statement.{statement}
 use Rattle.held.proofs.main.Tie as tie
 
-large-buffer-requires : tie.Need-large-buffer-requires
-large-buffer-requires c κs = search needs
+buffer-requires : tie.Need-buffer-requires
+buffer-requires c κs = search needs
 
 slice-aggregate-read-full : tie.Need-slice-aggregate-read-full
 slice-aggregate-read-full c = search needs
@@ -28,7 +28,7 @@ pub main-spec : {M : Type 1} → statement M
 main-spec =
     tie.close
     (tie.spec
-    large-buffer-requires
+    buffer-requires
     slice-aggregate-read-full
     read-full-requires
     array-share-prefix-text

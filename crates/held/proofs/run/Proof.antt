@@ -1,25 +1,25 @@
 -- Each line ends after its place. Assumes nothing.
 use mathlib.Core.Path.{_≡_}
-use Prim.Native.Nat.{_-_}
 use lib.ListN.{length}
+use Prim.Native.Nat.{_-_}
 use borrow.Author.Needs.{needs}
 use Rattle.held.proofs.run.Statement.{statement}
 use Rattle.held.proofs.run.Tie as tie
 
 abbrev Inv-loop : tie.InvT-loop
-Inv-loop text at₀ at = length text ≡ length text
+Inv-loop text bench₀ at₀ bench at = length text ≡ length text
 
 abbrev μ-loop : tie.MeasureT-loop
-μ-loop text at₀ at = length text - at
+μ-loop text bench₀ at₀ bench at = length text - at
+
+empty-bench-requires : tie.Need-empty-bench-requires Inv-loop μ-loop
+empty-bench-requires c κs = search needs
 
 loop-holds : tie.Need-loop-holds Inv-loop μ-loop
 loop-holds c = search needs
 
-byte-at-requires : tie.Need-byte-at-requires Inv-loop μ-loop
-byte-at-requires c κs = search needs
-
-network-requires : tie.Need-network-requires Inv-loop μ-loop
-network-requires c κs = search needs
+command-requires : tie.Need-command-requires Inv-loop μ-loop
+command-requires c κs = search needs
 
 next-line-requires : tie.Need-next-line-requires Inv-loop μ-loop
 next-line-requires c κs = search needs
@@ -39,9 +39,9 @@ run-spec =
     (tie.spec
     Inv-loop
     μ-loop
+    empty-bench-requires
     loop-holds
-    byte-at-requires
-    network-requires
+    command-requires
     next-line-requires
     loop-less
     loop-again

@@ -1,9 +1,9 @@
 -- The place moves up to the end. Assumes nothing.
-use Prim.Native.Nat.{_-_, _≤_}
 use lib.ListN.{length}
+use Prim.Native.Nat.{_-_, _≤_}
 use borrow.Author.Needs.{needs}
-use Rattle.held.proofs.next_line.Statement.{statement}
-use Rattle.held.proofs.next_line.Tie as tie
+use Rattle.held.proofs.read.next_line.Statement.{statement}
+use Rattle.held.proofs.read.next_line.Tie as tie
 
 abbrev Inv-loop : tie.InvT-loop
 Inv-loop text at i₀ i = (at ≤ i) × (i ≤ length text)

@@ -1,14 +1,14 @@
 -- The loop counts up to n, at most 16. Assumes nothing.
 use Prim.Native.Nat.{_-_, _≤_}
 use borrow.Author.Needs.{needs}
-use Rattle.held.proofs.parts.Statement.{statement}
-use Rattle.held.proofs.parts.Tie as tie
+use Rattle.held.proofs.print.parts.Statement.{statement}
+use Rattle.held.proofs.print.parts.Tie as tie
 
 abbrev Inv-loop : tie.InvT-loop
-Inv-loop n senders togglers meters i₀ i = i ≤ n
+Inv-loop n senders togglers meters o₀ i₀ o i = i ≤ n
 
 abbrev μ-loop : tie.MeasureT-loop
-μ-loop n senders togglers meters i₀ i = n - i
+μ-loop n senders togglers meters o₀ i₀ o i = n - i
 
 loop-holds : tie.Need-loop-holds Inv-loop μ-loop
 loop-holds c = search needs

@@ -1,20 +1,14 @@
 -- The loop counts up to 2n, at most 32. Assumes nothing.
 use Prim.Native.Nat.{_+_, _*_, _-_, _≤_}
 use borrow.Author.Needs.{needs}
-use Rattle.held.proofs.queue.Statement.{statement}
-use Rattle.held.proofs.queue.Tie as tie
+use Rattle.held.proofs.print.queue.Statement.{statement}
+use Rattle.held.proofs.print.queue.Tie as tie
 
 abbrev Inv-loop : tie.InvT-loop
-Inv-loop n places last k₀ k = k ≤ 33
+Inv-loop n places last o₀ k₀ o k = k ≤ 33
 
 abbrev μ-loop : tie.MeasureT-loop
-μ-loop n places last k₀ k = (2 * n + 1) - k
-
-slice-aggregate-put : tie.Need-slice-aggregate-put Inv-loop μ-loop
-slice-aggregate-put c = search needs
-
-put-requires : tie.Need-put-requires Inv-loop μ-loop
-put-requires c κs = search needs
+μ-loop n places last o₀ k₀ o k = (2 * n + 1) - k
 
 mul-last : tie.Need-mul-last Inv-loop μ-loop
 mul-last c = search needs
@@ -22,14 +16,14 @@ mul-last c = search needs
 loop-holds : tie.Need-loop-holds Inv-loop μ-loop
 loop-holds c = search needs
 
-separate-requires : tie.Need-separate-requires Inv-loop μ-loop
-separate-requires c κs = search needs
-
 mul-q : tie.Need-mul-q Inv-loop μ-loop
 mul-q c = search needs
 
 array-copy-out-q : tie.Need-array-copy-out-q Inv-loop μ-loop
 array-copy-out-q c = search needs
+
+separate-requires : tie.Need-separate-requires Inv-loop μ-loop
+separate-requires c κs = search needs
 
 maybe-requires : tie.Need-maybe-requires Inv-loop μ-loop
 maybe-requires c κs = search needs
@@ -52,13 +46,11 @@ queue-spec =
     (tie.spec
     Inv-loop
     μ-loop
-    slice-aggregate-put
-    put-requires
     mul-last
     loop-holds
-    separate-requires
     mul-q
     array-copy-out-q
+    separate-requires
     maybe-requires
     add-k
     loop-less

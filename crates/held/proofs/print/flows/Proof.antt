@@ -1,14 +1,17 @@
 -- The loop counts up to the senders. Assumes nothing.
 use Prim.Native.Nat.{_-_, _≤_}
 use borrow.Author.Needs.{needs}
-use Rattle.held.proofs.flows.Statement.{statement}
-use Rattle.held.proofs.flows.Tie as tie
+use Rattle.held.proofs.print.flows.Statement.{statement}
+use Rattle.held.proofs.print.flows.Tie as tie
 
 abbrev Inv-loop : tie.InvT-loop
-Inv-loop st n i₀ i = i ≤ n
+Inv-loop st n o₀ i₀ o i = (i ≤ n) × (n ≤ 16)
 
 abbrev μ-loop : tie.MeasureT-loop
-μ-loop st n i₀ i = n - i
+μ-loop st n o₀ i₀ o i = n - i
+
+few-requires : tie.Need-few-requires Inv-loop μ-loop
+few-requires c κs = search needs
 
 loop-holds : tie.Need-loop-holds Inv-loop μ-loop
 loop-holds c = search needs
@@ -31,4 +34,13 @@ returns c = search needs
 pub flows-spec : {M : Type 1} → statement M
 flows-spec =
     tie.close
-    (tie.spec Inv-loop μ-loop loop-holds flow-requires add-i loop-less loop-again returns)
+    (tie.spec
+    Inv-loop
+    μ-loop
+    few-requires
+    loop-holds
+    flow-requires
+    add-i
+    loop-less
+    loop-again
+    returns)

@@ -1,14 +1,14 @@
 -- The loop counts up to the count, and a slot is below 512. Assumes nothing.
 use Prim.Native.Nat.{_-_, _≤_}
 use borrow.Author.Needs.{needs}
-use Rattle.held.proofs.waiting.Statement.{statement}
-use Rattle.held.proofs.waiting.Tie as tie
+use Rattle.held.proofs.print.on_line.Statement.{statement}
+use Rattle.held.proofs.print.on_line.Tie as tie
 
 abbrev Inv-loop : tie.InvT-loop
-Inv-loop start count slots k₀ k = k ≤ count
+Inv-loop start count slots o₀ k₀ o k = k ≤ count
 
 abbrev μ-loop : tie.MeasureT-loop
-μ-loop start count slots k₀ k = count - k
+μ-loop start count slots o₀ k₀ o k = count - k
 
 slice-aggregate-put : tie.Need-slice-aggregate-put Inv-loop μ-loop
 slice-aggregate-put c = search needs
@@ -16,23 +16,26 @@ slice-aggregate-put c = search needs
 put-requires : tie.Need-put-requires Inv-loop μ-loop
 put-requires c κs = search needs
 
+returns : tie.Need-returns Inv-loop μ-loop
+returns c = search needs
+
 loop-holds : tie.Need-loop-holds Inv-loop μ-loop
 loop-holds c = search needs
-
-separate-requires : tie.Need-separate-requires Inv-loop μ-loop
-separate-requires c κs = search needs
 
 slot-requires : tie.Need-slot-requires Inv-loop μ-loop
 slot-requires c κs = search needs
 
-mul-p : tie.Need-mul-p Inv-loop μ-loop
-mul-p c = search needs
+mul-x : tie.Need-mul-x Inv-loop μ-loop
+mul-x c = search needs
 
-array-copy-out-p : tie.Need-array-copy-out-p Inv-loop μ-loop
-array-copy-out-p c = search needs
+array-copy-out-x : tie.Need-array-copy-out-x Inv-loop μ-loop
+array-copy-out-x c = search needs
 
-packet-requires : tie.Need-packet-requires Inv-loop μ-loop
-packet-requires c κs = search needs
+separate-requires : tie.Need-separate-requires Inv-loop μ-loop
+separate-requires c κs = search needs
+
+transit-requires : tie.Need-transit-requires Inv-loop μ-loop
+transit-requires c κs = search needs
 
 add-k : tie.Need-add-k Inv-loop μ-loop
 add-k c = search needs
@@ -43,24 +46,25 @@ loop-less c = search needs
 loop-again : tie.Need-loop-again Inv-loop μ-loop
 loop-again c = search needs
 
-returns : tie.Need-returns Inv-loop μ-loop
-returns c = search needs
+returns-2 : tie.Need-returns-2 Inv-loop μ-loop
+returns-2 c = search needs
 
-pub waiting-spec : {M : Type 1} → statement M
-waiting-spec =
+pub on-line-spec : {M : Type 1} → statement M
+on-line-spec =
     tie.close
     (tie.spec
     Inv-loop
     μ-loop
     slice-aggregate-put
     put-requires
+    returns
     loop-holds
-    separate-requires
     slot-requires
-    mul-p
-    array-copy-out-p
-    packet-requires
+    mul-x
+    array-copy-out-x
+    separate-requires
+    transit-requires
     add-k
     loop-less
     loop-again
-    returns)
+    returns-2)

@@ -1,8 +1,8 @@
 -- Each digit is below 16, and the number is cut before it grows. Assumes nothing.
 use Prim.Native.Nat.{_-_, _≤_}
 use borrow.Author.Needs.{needs}
-use Rattle.held.proofs.number.Statement.{statement}
-use Rattle.held.proofs.number.Tie as tie
+use Rattle.held.proofs.read.number.Statement.{statement}
+use Rattle.held.proofs.read.number.Tie as tie
 
 abbrev Inv-loop : tie.InvT-loop
 Inv-loop text at k from n₀ i₀ n i = i ≤ 16

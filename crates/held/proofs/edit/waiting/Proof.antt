@@ -1,0 +1,66 @@
+-- The loop counts up to n, and a slot is below 512. Assumes nothing.
+use Prim.Native.Nat.{_-_, _≤_}
+use borrow.Author.Needs.{needs}
+use Rattle.held.proofs.edit.waiting.Statement.{statement}
+use Rattle.held.proofs.edit.waiting.Tie as tie
+
+abbrev Inv-loop : tie.InvT-loop
+Inv-loop text at out₀ start n p k₀ out k = k ≤ 512
+
+abbrev μ-loop : tie.MeasureT-loop
+μ-loop text at out₀ start n p k₀ out k = n - k
+
+size-requires : tie.Need-size-requires Inv-loop μ-loop
+size-requires c κs = search needs
+
+size-requires-2 : tie.Need-size-requires-2 Inv-loop μ-loop
+size-requires-2 c κs = search needs
+
+at-most-512-requires : tie.Need-at-most-512-requires Inv-loop μ-loop
+at-most-512-requires c κs = search needs
+
+packet-at-requires : tie.Need-packet-at-requires Inv-loop μ-loop
+packet-at-requires c κs = search needs
+
+loop-holds : tie.Need-loop-holds Inv-loop μ-loop
+loop-holds c = search needs
+
+slot-requires : tie.Need-slot-requires Inv-loop μ-loop
+slot-requires c κs = search needs
+
+mul-p : tie.Need-mul-p Inv-loop μ-loop
+mul-p c = search needs
+
+element-set-from-p : tie.Need-element-set-from-p Inv-loop μ-loop
+element-set-from-p c = search needs
+
+add-k : tie.Need-add-k Inv-loop μ-loop
+add-k c = search needs
+
+loop-less : tie.Need-loop-less Inv-loop μ-loop
+loop-less c = search needs
+
+loop-again : tie.Need-loop-again Inv-loop μ-loop
+loop-again c = search needs
+
+returns : tie.Need-returns Inv-loop μ-loop
+returns c = search needs
+
+pub waiting-spec : {M : Type 1} → statement M
+waiting-spec =
+    tie.close
+    (tie.spec
+    Inv-loop
+    μ-loop
+    size-requires
+    size-requires-2
+    at-most-512-requires
+    packet-at-requires
+    loop-holds
+    slot-requires
+    mul-p
+    element-set-from-p
+    add-k
+    loop-less
+    loop-again
+    returns)

@@ -1,0 +1,211 @@
+// A simulation with one of its parts anew, from the fields of a line. An index out of range changes
+// nothing.
+ghost use Prim.Native.Nat.{_≤_};
+use crate::print::slot;
+use crate::read::absent;
+use crate::read::double;
+use crate::read::moment;
+use crate::read::narrow;
+use crate::read::network_at;
+use crate::read::number;
+use crate::read::size;
+use crate::read::time_if_any;
+use components::Enabled;
+use components::Line;
+use components::LossySender;
+use components::Packet;
+use components::Queued;
+use components::Ring;
+use components::SenderState;
+use components::Toggler;
+use components::Transit;
+use meters::AverageFlowMeter;
+use quantities::Information;
+use quantities::TimeSpan;
+use rand::Rng;
+use remy::Head;
+use remy::Next;
+use remy::Simulation;
+
+// V and the fields of a network
+pub fn network(text: &[u8], at: usize, st: Simulation) -> Simulation {
+    let mut out = st;
+    let network = network_at(text, at);
+    out.network = network;
+    out
+}
+
+// C clock next
+pub fn head(text: &[u8], at: usize, st: Simulation) -> Simulation {
+    let mut out = st;
+    let next = next_at(text, at, 1);
+    let clock = moment(text, at, 0);
+    let head = Head { clock, next };
+    out.head = head;
+    out
+}
+
+fn next_at(text: &[u8], at: usize, k: usize) -> Next {
+    if absent(text, at, k) {
+        Next::None
+    } else {
+        Next::Part(size(text, at, k))
+    }
+}
+
+// L earliest-start bits, start and count of those that wait, start and count of those on the line
+pub fn line(text: &[u8], at: usize, st: Simulation) -> Simulation {
+    let mut out = st;
+    let rng = out.line.rng;
+    let waiting = Ring {
+        start: size(text, at, 2),
+        count: size(text, at, 3),
+    };
+    let on_line = Ring {
+        start: size(text, at, 4),
+        count: size(text, at, 5),
+    };
+    let line = Line {
+        earliest_transmit: moment(text, at, 0),
+        buffer_contains: Information(number(text, at, 1)),
+        waiting,
+        on_line,
+        rng,
+    };
+    out.line = line;
+    out
+}
+
+fn packet_at(text: &[u8], at: usize) -> Packet {
+    Packet {
+        sender: narrow(text, at, 2),
+        seq: narrow(text, at, 3),
+        sent_time: moment(text, at, 4),
+    }
+}
+
+fn at_most_512(n: usize) -> usize
+    ensures { λ r. ⌜ r ≤ 512 ⌝ }
+{
+    if n < 512 {
+        return n;
+    }
+    512
+}
+
+// W slot count sender sequence sent-time: so many slots of those that wait
+pub fn waiting(text: &[u8], at: usize, st: Simulation) -> Simulation {
+    let mut out = st;
+    let start = size(text, at, 0);
+    let n = at_most_512(size(text, at, 1));
+    let p = packet_at(text, at);
+    let mut k: usize = 0;
+    while k < n {
+        let i = slot(start, k);
+        out.waiting[i] = p;
+        k += 1;
+    }
+    out
+}
+
+// O slot count sender sequence sent-time due: so many slots of those on the line
+pub fn on_line(text: &[u8], at: usize, st: Simulation) -> Simulation {
+    let mut out = st;
+    let start = size(text, at, 0);
+    let n = at_most_512(size(text, at, 1));
+    let packet = packet_at(text, at);
+    let due = moment(text, at, 5);
+    let x = Transit { packet, due };
+    let mut k: usize = 0;
+    while k < n {
+        let i = slot(start, k);
+        out.on_line[i] = x;
+        k += 1;
+    }
+    out
+}
+
+// S i sent on started greatest-ack window timer
+pub fn sender(text: &[u8], at: usize, st: Simulation) -> Simulation {
+    let mut out = st;
+    let i = size(text, at, 0);
+    if i < 16 {
+        let old = out.senders[i];
+        let rng = old.rng;
+        let state = state_at(text, at);
+        let sender = LossySender {
+            packets_sent: narrow(text, at, 1),
+            state,
+            rng,
+        };
+        out.senders[i] = sender;
+    }
+    out
+}
+
+fn state_at(text: &[u8], at: usize) -> SenderState {
+    if number(text, at, 2) == 0 {
+        return SenderState::WaitingForEnable;
+    }
+    let timer = time_if_any(text, at, 6);
+    SenderState::Enabled(Enabled {
+        started: moment(text, at, 3),
+        greatest_ack: narrow(text, at, 4),
+        cwnd: narrow(text, at, 5),
+        timer,
+    })
+}
+
+// G i on next-toggle, and the generator's four words
+pub fn toggler(text: &[u8], at: usize, st: Simulation) -> Simulation {
+    let mut out = st;
+    let i = size(text, at, 0);
+    if i < 16 {
+        let toggler = Toggler {
+            enabled: number(text, at, 1) != 0,
+            next_toggle: moment(text, at, 2),
+            rng: words_at(text, at),
+        };
+        out.togglers[i] = toggler;
+    }
+    out
+}
+
+fn words_at(text: &[u8], at: usize) -> Rng {
+    Rng::from_words(
+        number(text, at, 3),
+        number(text, at, 4),
+        number(text, at, 5),
+        number(text, at, 6),
+    )
+}
+
+// M i total-time start bits records rtt-sum
+pub fn meter(text: &[u8], at: usize, st: Simulation) -> Simulation {
+    let mut out = st;
+    let i = size(text, at, 0);
+    if i < 16 {
+        let current_start = time_if_any(text, at, 2);
+        let meter = AverageFlowMeter {
+            total_time: TimeSpan(double(text, at, 1)),
+            current_start,
+            total: Information(number(text, at, 3)),
+            records: narrow(text, at, 4),
+            rtt_sum: TimeSpan(double(text, at, 5)),
+        };
+        out.meters[i] = meter;
+    }
+    out
+}
+
+// Q place time
+pub fn queue(text: &[u8], at: usize, st: Simulation) -> Simulation {
+    let mut out = st;
+    let k = size(text, at, 0);
+    if k < 33 {
+        let time = time_if_any(text, at, 1);
+        let place = Queued { time };
+        out.queue[k] = place;
+    }
+    out
+}

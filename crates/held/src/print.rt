@@ -1,0 +1,324 @@
+// Records, held states and flows as text, in the form of oracle/FORM.md.
+ghost use Prim.Native.Nat.{_<_, _≤_};
+use crate::sink::Sink;
+use crate::sink::decimal;
+use crate::sink::double;
+use crate::sink::put;
+use components::LossySender;
+use components::Packet;
+use components::Queued;
+use components::SenderState;
+use components::Toggler;
+use components::Transit;
+use meters::AverageFlowMeter;
+use meters::FlowProperties;
+use meters::FlowRead;
+use meters::Rtt;
+use quantities::OptionTime;
+use quantities::Time;
+use rand::Rng;
+use remy::Mark;
+use remy::Name;
+use remy::Next;
+use remy::Simulation;
+use remy::TickRecord;
+use simulation::SenderFlow;
+
+pub fn record(out: Sink, note: TickRecord) -> Sink {
+    let a = moment(put(out, b"time="), note.time);
+    let b = decimal(put(a, b" part="), note.part as u64);
+    let marked = note.mark;
+    let c = mark(put(b, b" mark="), marked);
+    let packet = note.packet;
+    let d = name(put(c, b" packet="), packet);
+    let started = note.started;
+    let e = name(put(d, b" line="), started);
+    put(e, b"\n")
+}
+
+fn mark(out: Sink, mark: Mark) -> Sink {
+    match mark {
+        Mark::None => put(out, b"-"),
+        Mark::Enabled => put(out, b"E"),
+        Mark::Disabled => put(out, b"D"),
+        Mark::Timer => put(out, b"T"),
+        Mark::Sent => put(out, b"S"),
+        Mark::Full => put(out, b"F"),
+        Mark::Lost => put(out, b"L"),
+        Mark::Counted => put(out, b"C"),
+        Mark::Old => put(out, b"O"),
+        Mark::Ignored => put(out, b"I"),
+    }
+}
+
+fn name(out: Sink, name: Name) -> Sink {
+    match name {
+        Name::None => put(out, b"-"),
+        Name::Packet(sender, seq) => pair(out, sender as u64, seq as u64),
+    }
+}
+
+fn pair(out: Sink, a: u64, b: u64) -> Sink {
+    decimal(put(decimal(out, a), b":"), b)
+}
+
+// The whole held state, with no line end.
+pub fn state(out: Sink, st: Simulation) -> Sink {
+    let head = st.head;
+    let line = st.line;
+    let part = head.next;
+    let a = moment(put(out, b"state clock="), head.clock);
+    let b = next(put(a, b" next="), part);
+    let c = moment(put(b, b" earliest="), line.earliest_transmit);
+    let d = decimal(put(c, b" bits="), line.buffer_contains.0);
+    let wait = st.waiting;
+    let e = waiting(
+        put(d, b" waiting="),
+        wait,
+        line.waiting.start,
+        line.waiting.count,
+    );
+    let moving = st.on_line;
+    let f = on_line(
+        put(e, b" line="),
+        moving,
+        line.on_line.start,
+        line.on_line.count,
+    );
+    let g = words(put(f, b" link="), line.rng);
+    let n = few(st.network.senders) as usize;
+    let senders = st.senders;
+    let togglers = st.togglers;
+    let meters = st.meters;
+    let places = st.queue;
+    let h = parts(g, senders, togglers, meters, n);
+    queue(put(h, b" queue="), places, n)
+}
+
+fn next(out: Sink, next: Next) -> Sink {
+    match next {
+        Next::None => put(out, b"-"),
+        Next::Part(k) => decimal(out, k as u64),
+    }
+}
+
+// The packets that wait, in order.
+fn waiting(out: Sink, slots: [Packet; 512], start: usize, count: usize) -> Sink {
+    if count == 0 {
+        return put(out, b"-");
+    }
+    let mut o = out;
+    let mut k: usize = 0;
+    while k < count {
+        let at = slot(start, k);
+        let p = slots[at];
+        o = packet(separate(o, k), p);
+        k += 1;
+    }
+    o
+}
+
+// The packets on the line, in order.
+fn on_line(out: Sink, slots: [Transit; 512], start: usize, count: usize) -> Sink {
+    if count == 0 {
+        return put(out, b"-");
+    }
+    let mut o = out;
+    let mut k: usize = 0;
+    while k < count {
+        let at = slot(start, k);
+        let x = slots[at];
+        o = transit(separate(o, k), x);
+        k += 1;
+    }
+    o
+}
+
+fn transit(out: Sink, x: Transit) -> Sink {
+    moment(put(packet(out, x.packet), b":"), x.due)
+}
+
+fn packet(out: Sink, p: Packet) -> Sink {
+    moment(
+        put(pair(out, p.sender as u64, p.seq as u64), b":"),
+        p.sent_time,
+    )
+}
+
+// A comma before each but the first.
+fn separate(out: Sink, k: usize) -> Sink {
+    if k == 0 {
+        return out;
+    }
+    put(out, b",")
+}
+
+pub fn slot(start: usize, k: usize) -> usize
+    ensures { λ r. ⌜ r < 512 ⌝ }
+{
+    if start < 512 {
+        if k < 512 {
+            return (start + k) % 512;
+        }
+    }
+    0
+}
+
+fn few(senders: u32) -> u32
+    ensures { λ r. ⌜ r ≤ 16 ⌝ }
+{
+    if senders < 16 {
+        return senders;
+    }
+    16
+}
+
+// The sender, toggler and meter of each i below n.
+fn parts(
+    out: Sink,
+    senders: [LossySender; 16],
+    togglers: [Toggler; 16],
+    meters: [AverageFlowMeter; 16],
+    n: usize,
+) -> Sink
+    requires { ⌜ n ≤ 16 ⌝ }
+{
+    let mut o = out;
+    let mut i: usize = 0;
+    while i < n {
+        let s = senders[i];
+        let t = togglers[i];
+        let m = meters[i];
+        o = meter(toggler(sender(o, i, s), i, t), i, m);
+        i += 1;
+    }
+    o
+}
+
+fn sender(out: Sink, i: usize, sender: LossySender) -> Sink {
+    let a = pair(put(out, b" sender="), i as u64, sender.packets_sent as u64);
+    let state = sender.state;
+    let b = sending(a, state);
+    words(put(b, b":"), sender.rng)
+}
+
+fn sending(out: Sink, state: SenderState) -> Sink {
+    match state {
+        SenderState::WaitingForEnable => put(out, b":off"),
+        SenderState::Enabled(e) => {
+            let a = moment(put(out, b":"), e.started);
+            let b = pair(put(a, b":"), e.greatest_ack as u64, e.cwnd as u64);
+            let timer = e.timer;
+            maybe(put(b, b":"), timer)
+        }
+    }
+}
+
+fn toggler(out: Sink, i: usize, toggler: Toggler) -> Sink {
+    let a = decimal(put(out, b" toggler="), i as u64);
+    let b = on_or_off(a, toggler.enabled);
+    let c = moment(b, toggler.next_toggle);
+    words(put(c, b":"), toggler.rng)
+}
+
+fn on_or_off(out: Sink, on: bool) -> Sink {
+    if on {
+        return put(out, b":on:");
+    }
+    put(out, b":off:")
+}
+
+fn meter(out: Sink, i: usize, meter: AverageFlowMeter) -> Sink {
+    let a = decimal(put(out, b" meter="), i as u64);
+    let b = double(put(a, b":"), meter.total_time.0);
+    let start = meter.current_start;
+    let c = maybe(put(b, b":"), start);
+    let d = pair(put(c, b":"), meter.total.0, meter.records as u64);
+    double(put(d, b":"), meter.rtt_sum.0)
+}
+
+// The times of the parts 0 to 2n.
+fn queue(out: Sink, places: [Queued; 33], n: usize) -> Sink
+    requires { ⌜ n ≤ 16 ⌝ }
+{
+    let last = 2 * n;
+    let mut o = out;
+    let mut k: usize = 0;
+    while k <= last {
+        let q = places[k];
+        let time = q.time;
+        o = maybe(separate(o, k), time);
+        k += 1;
+    }
+    o
+}
+
+// The flow of each sender, read at the clock.
+pub fn flows(out: Sink, st: Simulation) -> Sink {
+    let n = few(st.network.senders);
+    let mut o = out;
+    let mut i: u32 = 0;
+    while i < n {
+        o = flow(o, st, i);
+        i += 1;
+    }
+    o
+}
+
+pub fn flow(out: Sink, st: Simulation, i: u32) -> Sink {
+    let a = decimal(put(out, b"flow="), i as u64);
+    let b = totals(a, st, i);
+    match simulation::average_properties(st, i) {
+        SenderFlow::NoSender => put(b, b" -\n"),
+        SenderFlow::Of(read) => rates(b, read),
+    }
+}
+
+fn totals(out: Sink, st: Simulation, i: u32) -> Sink {
+    if i < 16 {
+        let k = i as usize;
+        let s = st.senders[k];
+        let m = st.meters[k];
+        let a = decimal(put(out, b" sent="), s.packets_sent as u64);
+        return decimal(put(a, b" counted="), m.records as u64);
+    }
+    out
+}
+
+fn rates(out: Sink, read: FlowRead) -> Sink {
+    match read {
+        FlowRead::Properties(flow) => properties(out, flow),
+        FlowRead::NeverActive => put(out, b" rate=- rtt=-\n"),
+        FlowRead::Refused => put(out, b" rate=- rtt=-\n"),
+    }
+}
+
+fn properties(out: Sink, flow: FlowProperties) -> Sink {
+    let a = double(put(out, b" rate="), flow.throughput.0);
+    let rtt = flow.rtt;
+    let b = span_if_any(put(a, b" rtt="), rtt);
+    put(b, b"\n")
+}
+
+fn span_if_any(out: Sink, rtt: Rtt) -> Sink {
+    match rtt {
+        Rtt::NoPacketsAcked => put(out, b"-"),
+        Rtt::Known(span) => double(out, span.0),
+    }
+}
+
+fn words(out: Sink, rng: Rng) -> Sink {
+    let w = rng.words();
+    pair(put(pair(out, w[0], w[1]), b":"), w[2], w[3])
+}
+
+pub fn maybe(out: Sink, time: OptionTime) -> Sink {
+    match time {
+        OptionTime::None => put(out, b"-"),
+        OptionTime::Some(t) => moment(out, t),
+    }
+}
+
+pub fn moment(out: Sink, time: Time) -> Sink {
+    double(out, time.0.0)
+}

@@ -1,0 +1,146 @@
+// Reads the fields of a line: a letter, then fields of 16 hexadecimal digits, each after a space. A
+// field that is not there reads as 0.
+ghost use Prim.Native.Nat.{_<_};
+use components::Limit;
+use components::Policy;
+use quantities::OptionTime;
+use quantities::Time;
+use quantities::TimeSpan;
+use quantities::float::from_bits;
+use rand::ContinuousDistribution;
+use remy::RemyNetwork;
+
+// The network of the fields 0 to 15: delay, rate, loss, limit, bits, senders; on and off, each a kind
+// and two doubles; the policy's kind, two numbers and the gap.
+pub fn network_at(text: &[u8], at: usize) -> RemyNetwork {
+    RemyNetwork {
+        delay: double(text, at, 0),
+        rate: double(text, at, 1),
+        loss: double(text, at, 2),
+        limit: limit_at(text, at),
+        bits: number(text, at, 4),
+        senders: narrow(text, at, 5),
+        on: distribution_at(text, at, 6),
+        off: distribution_at(text, at, 9),
+        policy: policy_at(text, at),
+    }
+}
+
+fn limit_at(text: &[u8], at: usize) -> Limit {
+    if absent(text, at, 3) {
+        Limit::None
+    } else {
+        Limit::Bits(number(text, at, 3))
+    }
+}
+
+fn distribution_at(text: &[u8], at: usize, k: usize) -> ContinuousDistribution
+    requires { ⌜ k < 16 ⌝ }
+{
+    let a = double(text, at, k + 1);
+    if number(text, at, k) == 0 {
+        ContinuousDistribution::Always(a)
+    } else {
+        ContinuousDistribution::Uniform(a, double(text, at, k + 2))
+    }
+}
+
+fn policy_at(text: &[u8], at: usize) -> Policy {
+    let first = narrow(text, at, 13);
+    let most = narrow(text, at, 14);
+    match number(text, at, 12) {
+        0 => Policy::Held(first),
+        1 => Policy::Grown(first, most),
+        _ => Policy::Timed(most, double(text, at, 15)),
+    }
+}
+
+// A field that may be absent, as a time.
+pub fn time_if_any(text: &[u8], at: usize, k: usize) -> OptionTime {
+    if absent(text, at, k) {
+        OptionTime::None
+    } else {
+        OptionTime::Some(moment(text, at, k))
+    }
+}
+
+pub fn absent(text: &[u8], at: usize, k: usize) -> bool {
+    byte_at(text, field(at, k)) == b'-'
+}
+
+pub fn moment(text: &[u8], at: usize, k: usize) -> Time {
+    Time(TimeSpan(double(text, at, k)))
+}
+
+pub fn double(text: &[u8], at: usize, k: usize) -> f64 {
+    from_bits(number(text, at, k))
+}
+
+// The last 32 bits of a field.
+pub fn narrow(text: &[u8], at: usize, k: usize) -> u32 {
+    (number(text, at, k) % 4294967296) as u32
+}
+
+pub fn size(text: &[u8], at: usize, k: usize) -> usize {
+    (number(text, at, k) % 4294967296) as usize
+}
+
+// The place of a line's field k, counted from 0: a letter, and 17 bytes for each field before it.
+fn field(at: usize, k: usize) -> usize {
+    if at < 262144 {
+        if k < 18 {
+            return at + 2 + 17 * k;
+        }
+    }
+    262144
+}
+
+pub fn number(text: &[u8], at: usize, k: usize) -> u64 {
+    let from = field(at, k);
+    let mut n: u64 = 0;
+    for i in 0..16 {
+        n = (n % 0x1000_0000_0000_0000) * 16 + digit_at(text, from, i);
+    }
+    n
+}
+
+fn digit_at(text: &[u8], from: usize, i: usize) -> u64
+    ensures { λ r. ⌜ r < 16 ⌝ }
+{
+    if from > 524288 {
+        return 0;
+    }
+    if i > 16 {
+        return 0;
+    }
+    digit(byte_at(text, from + i))
+}
+
+fn digit(b: u8) -> u64
+    ensures { λ r. ⌜ r < 16 ⌝ }
+{
+    match b {
+        b'0'..=b'9' => (b - 48) as u64,
+        b'a'..=b'f' => (b - 87) as u64,
+        _ => 0,
+    }
+}
+
+pub fn byte_at(text: &[u8], at: usize) -> u8 {
+    if at < text.len() { text[at] } else { 0 }
+}
+
+// The place after the next LF, or the end.
+pub fn next_line(text: &[u8], at: usize) -> usize
+    requires { do ⌜ at < (← ⟦text.len()⟧) ⌝ }
+    ensures { λ r. ⌜ at < r ⌝ }
+{
+    let mut i = at;
+    while i < text.len() {
+        if text[i] == 10 {
+            return i + 1;
+        }
+        i += 1;
+    }
+    i
+}
