@@ -4,9 +4,9 @@ ghost use mathlib.Core.Path.{_≡_};
 ghost use Rattle.remy.specs.Build.{notBuilt, buildFrom, buildOf};
 ghost use Rattle.builder.specs.Parts.{partsOf};
 
-pub mod parts;
-pub mod queue;
-pub mod state;
+mod parts;
+mod queue;
+mod state;
 
 use crate::parts::make;
 use crate::queue::pick_next;

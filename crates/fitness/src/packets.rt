@@ -113,6 +113,8 @@ fn due_fit(on_line: [Transit; 512], ring: Ring) -> bool
 }
 
 // Whether the packets that wait and those on the line are fit, and no due time falls.
+//
+// `pub` within this crate; `is_fit` has tested the senders' number and the rings.
 pub fn packets_fit(
     senders: [LossySender; 16],
     n: u32,
@@ -135,6 +137,8 @@ pub fn packets_fit(
 }
 
 // The due time of the first packet on the line; it is read only where there is one.
+//
+// `pub` within this crate; `is_fit` has tested the rings.
 pub fn first_due(on_line: [Transit; 512], ring: Ring) -> Time
     requires { ⌜ ring .start < 512 ⌝ }
     ensures { λ r. ⌜ r ≡ firstDue «on_line» ring ⌝ }
@@ -145,6 +149,8 @@ pub fn first_due(on_line: [Transit; 512], ring: Ring) -> Time
 }
 
 // How many of a sender's packets wait.
+//
+// `pub` within this crate; `is_fit` has tested the rings.
 pub fn waiting_of(sender: u32, waiting: [Packet; 512], ring: Ring) -> usize
     requires { ⌜ (ring .start < 512) × (ring .count ≤ 512) ⌝ }
     ensures { λ r. ⌜ (r ≡ waitingOf sender waiting ring) × (r ≤ 512) ⌝ }
@@ -166,6 +172,8 @@ pub fn waiting_of(sender: u32, waiting: [Packet; 512], ring: Ring) -> usize
 }
 
 // How many of a sender's packets are on the line.
+//
+// `pub` within this crate; `is_fit` has tested the rings.
 pub fn on_line_of(sender: u32, on_line: [Transit; 512], ring: Ring) -> usize
     requires { ⌜ (ring .start < 512) × (ring .count ≤ 512) ⌝ }
     ensures { λ r. ⌜ (r ≡ onLineOf sender «on_line» ring) × (r ≤ 512) ⌝ }

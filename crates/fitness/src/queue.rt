@@ -166,6 +166,8 @@ fn places_fit(
 }
 
 // Whether the next part and each place of the queue are fit.
+//
+// `pub` within this crate; `is_fit` has tested the senders' number.
 pub fn queue_fit(
     n: u32,
     line: Line,

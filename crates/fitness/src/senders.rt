@@ -194,6 +194,8 @@ fn sender_fit(
 }
 
 // Whether the first n senders, with their togglers and meters, are fit.
+//
+// `pub` within this crate; `is_fit` has tested the network and the rings.
 pub fn senders_fit(
     policy: Policy,
     bits: u64,

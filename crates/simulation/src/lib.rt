@@ -41,11 +41,11 @@ pub fn run(simulation: Simulation, n: u32) -> Ran
     ensures { λ r. ⌜ (r ≡ runOf n simulation) × RunAccount simulation r ⌝ }
 {
     let a = advance(simulation, n);
-    let after = a.simulation;
+    let last = a.simulation;
     Ran {
         done: a.done,
         number: a.number,
-        simulation: after,
+        simulation: last,
     }
 }
 

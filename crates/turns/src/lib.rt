@@ -1,8 +1,7 @@
 // What a part does in its turn, as functions on small structs: the loop of ticks reads the elements
 // that a turn needs, calls these, and stores what they give. Each is a piece of the tick definition.
 //
-// All functions here are helpers for the crate `simulation`, and no entry points; some demand that
-// the rings are in range, which the fit test has shown.
+// All functions here are helpers for the crate `simulation`, and no entry points.
 ghost use mathlib.Core.Path.{_≡_};
 ghost use mathlib.Core.Bool.{cond};
 ghost use Prim.Native.Nat.{_+_, _*_, _≤_, _<_, _^_};
@@ -132,6 +131,8 @@ pub fn owner(packet: Packet) -> usize
 }
 
 // The link's turn: first the packet that leaves, then the packet that starts.
+//
+// `pub` for the crate `simulation` only, which has tested the rings (9).
 pub fn link_acts(
     network: RemyNetwork,
     line: Line,
@@ -234,6 +235,7 @@ pub fn hear(
     }
 }
 
+// The record of the link's turn.
 pub fn link_note(clock: Time, left: Left, begun: Begun, mark: Mark) -> TickRecord
     ensures { λ r. ⌜ r ≡ linkNote clock left begun mark ⌝ }
 {
@@ -289,6 +291,8 @@ pub fn sender_slot(changed: bool, sender: LossySender, clock: Time, old: Queued)
 }
 
 // A sender's turn: a timer equal to the clock goes first and alone; else one packet.
+//
+// `pub` for the crate `simulation` only, which has tested the next part (9).
 pub fn sender_acts(network: RemyNetwork, clock: Time, sender: LossySender, i: usize) -> SenderActed
     requires { ⌜ i < 16 ⌝ }
     ensures { λ r. ⌜ r ≡ senderActed network clock sender i ⌝ }
@@ -334,6 +338,8 @@ pub fn sender_acts(network: RemyNetwork, clock: Time, sender: LossySender, i: us
 }
 
 // The packet that was sent arrives at the link.
+//
+// `pub` for the crate `simulation` only, which has tested the rings and the waiting bits (9).
 pub fn arrive(limit: Limit, bits: u64, line: Line, sending: Sending) -> Arriving
     requires { ⌜ (line .waiting .start < 512) × (line .waiting .count ≤ 512) × (line .«buffer_contains» .0 + bits < 2 ^ 64) ⌝ }
     ensures { λ r. ⌜ r ≡ arrivedAt limit bits line sending ⌝ }
@@ -385,6 +391,9 @@ pub fn waiting_at(admitted: bool, sending: Sending, old: Packet) -> Packet
     }
 }
 
+// The record of a sender's turn.
+//
+// `pub` for the crate `simulation` only, which has tested the next part (9).
 pub fn sender_note(clock: Time, i: usize, sending: Sending, mark: Mark) -> TickRecord
     requires { ⌜ i < 16 ⌝ }
     ensures { λ r. ⌜ r ≡ senderNote clock i sending mark ⌝ }
@@ -419,6 +428,9 @@ pub fn switched(policy: Policy, on: bool, sender: LossySender, clock: Time) -> L
     }
 }
 
+// The record of a toggler's turn.
+//
+// `pub` for the crate `simulation` only, which has tested the next part (9).
 pub fn toggler_note(clock: Time, i: usize, on: bool) -> TickRecord
     requires { ⌜ i < 16 ⌝ }
     ensures { λ r. ⌜ r ≡ togglerNote clock i on ⌝ }
