@@ -1,0 +1,159 @@
+-- A steady state by the parts of the state that each fact reads: the line with its packets, a sender with its toggler and meter, a place of the queue. Assumes nothing.
+use mathlib.Core.Path.{_≡_}
+use mathlib.Core.Bool.{true}
+use mathlib.Core.List.{List, [], _∷_}
+use Prim.Native.Nat.{ℕ, _+_, _*_, _≤_, _<_}
+use lib.Dec.{T}
+use lib.Ieee.{Float, le}
+use Rattle.quantities.specs.declared.time.Time.{Time}
+use Rattle.quantities.specs.declared.time.OptionTime.{OptionTime}
+use Rattle.quantities.specs.declared.time.OptionTime.the-variants.{None, Some}
+use Rattle.quantities.specs.Doubles.{zeroF, power}
+use Rattle.quantities.specs.Units.{spanOf, after}
+use Rattle.meters.specs.declared.meter.AverageFlowMeter.{AverageFlowMeter}
+use Rattle.meters.specs.Meter.{isOn, totalFit, sumFit}
+use Rattle.components.specs.declared.packet.Packet.{Packet}
+use Rattle.components.specs.declared.packet.Transit.{Transit}
+use Rattle.components.specs.declared.link.Line.{Line}
+use Rattle.components.specs.declared.lossy.Policy.{Policy}
+use Rattle.components.specs.declared.lossy.Enabled.{Enabled}
+use Rattle.components.specs.declared.lossy.SenderState.{SenderState}
+use Rattle.components.specs.declared.lossy.SenderState.the-variants as State
+use Rattle.components.specs.declared.lossy.LossySender.{LossySender}
+use Rattle.components.specs.declared.toggler.Toggler.{Toggler}
+use Rattle.components.specs.Ring.{items}
+use Rattle.components.specs.Queue.{queuePlaces}
+use Rattle.components.proofs.Items.{Sound}
+use Rattle.remy.specs.declared.network.RemyNetwork.{RemyNetwork}
+use Rattle.remy.specs.declared.simulation.Next.the-variants as Next
+use Rattle.remy.specs.declared.simulation.Simulation.{Simulation}
+use Rattle.remy.specs.Network.{windowFit, networkStop}
+use Rattle.remy.specs.State.{noPacket, noTransit, senderAt, togglerAt, meterAt, queuedAt, waitingItems, onLinePackets, packetBits, totalBits}
+use Rattle.remy.specs.Queue.{nextTimeOf}
+use Rattle.remy.specs.Fit.{isTimed, senderOn, sameTime, heldQueued, countOf, rising}
+use Rattle.steady.specs.Steady.{Full}
+
+-- every member of a list
+abbrev pub All : {A : Type 0} → (A → Type 0) → List A → Type 0
+All P [] = Unit {0}
+All P (x ∷ xs) = P x × All P xs
+
+-- two moments in order
+abbrev pub NotAfter : Time → Time → Type 0
+NotAfter t u = T (le (t .0 .0) (u .0 .0))
+
+-- a held time: at most 2^41
+abbrev pub Held : Time → Type 0
+Held t = T (le (t .0 .0) (power 41))
+
+-- in 0..clock
+pub record Past (clock t : Time) : Type 0 where
+  pub low : T (le zeroF (t .0 .0))
+  pub high : NotAfter t clock
+
+abbrev pub PastIfAny : Time → OptionTime → Type 0
+PastIfAny clock None = Unit {0}
+PastIfAny clock (Some t) = Past clock t
+
+-- ---- the line
+
+-- a packet of one of n senders, where sender i sent so many
+pub record PacketOk (n : ℕ) (sent : ℕ → ℕ) (clock : Time) (p : Packet) : Type 0 where
+  pub own : p .sender < n
+  pub first : 1 ≤ p .seq
+  pub last : p .seq ≤ sent (p .sender)
+  pub past : Past clock (p .«sent_time»)
+
+-- a packet on the line: due from the clock on, not later than the clock and the delay
+pub record TransitOk (n : ℕ) (sent : ℕ → ℕ) (clock : Time) (delay : Float) (x : Transit) : Type 0 where
+  pub packet : PacketOk n sent clock (x .packet)
+  pub held : Held (x .due)
+  pub ahead : NotAfter clock (x .due)
+  pub soon : NotAfter (x .due) (after clock (spanOf delay))
+
+pub record LineOk (net : RemyNetwork) (sent : ℕ → ℕ) (clock : Time) (l : Line) (waiting : List Packet) (moving : List Transit) : Type 0 where
+  pub waits : Sound waiting (l .waiting)
+  pub moves : Sound moving (l .«on_line»)
+  pub bits : l .«buffer_contains» .0 ≡ totalBits (λ p. packetBits net p .0) (items noPacket waiting (l .waiting))
+  pub waiting-ok : All (PacketOk (net .senders) sent clock) (items noPacket waiting (l .waiting))
+  pub moving-ok : All (TransitOk (net .senders) sent clock (net .delay)) (items noTransit moving (l .«on_line»))
+  pub order : rising (items noTransit moving (l .«on_line»)) ≡ true
+  pub free : Held (l .«earliest_transmit»)
+
+-- ---- a sender with its toggler and meter
+
+-- a timer of a timed policy, from the clock on
+pub record TimerOk (policy : Policy) (clock t : Time) : Type 0 where
+  pub timed : isTimed policy ≡ true
+  pub held : Held t
+  pub ahead : NotAfter clock t
+
+abbrev pub TimerIfAny : Policy → Time → OptionTime → Type 0
+TimerIfAny policy clock None = Unit {0}
+TimerIfAny policy clock (Some t) = TimerOk policy clock t
+
+pub record EnabledOk (policy : Policy) (clock : Time) (e : Enabled) : Type 0 where
+  pub started : Past clock (e .started)
+  pub ack : e .«greatest_ack» ≤ 16777216
+  pub window : windowFit (e .cwnd) ≡ true
+  pub timer : TimerIfAny policy clock (e .timer)
+
+abbrev pub StateOk : Policy → Time → SenderState → Type 0
+StateOk policy clock State.WaitingForEnable = Unit {0}
+StateOk policy clock (State.Enabled e) = EnabledOk policy clock e
+
+-- a meter, of packets of so many bits
+pub record MeterOk (size : ℕ) (clock : Time) (m : AverageFlowMeter) : Type 0 where
+  pub start : PastIfAny clock (m .«current_start»)
+  pub total : totalFit (m .«total_time») ≡ true
+  pub sum : sumFit (m .records) (m .«rtt_sum») ≡ true
+  pub bits : m .total .0 ≡ m .records * size
+
+pub record PartOk (net : RemyNetwork) (clock : Time) (x : LossySender) (t : Toggler) (m : AverageFlowMeter) : Type 0 where
+  pub sent : x .«packets_sent» ≤ 16777216
+  pub state : StateOk (net .policy) clock (x .state)
+  pub toggler-on : t .enabled ≡ senderOn (x .state)
+  pub toggle : Held (t .«next_toggle»)
+  pub toggle-ahead : NotAfter clock (t .«next_toggle»)
+  pub meter-on : isOn (m .«current_start») ≡ senderOn (x .state)
+  pub meter : MeterOk (net .bits) clock m
+
+-- ---- the whole state
+
+-- how many packets each sender sent
+abbrev pub sentOf : Simulation → ℕ → ℕ
+sentOf s i = senderAt s i .«packets_sent»
+
+-- all but the queue
+pub record Body (s : Simulation) : Type 0 where
+  pub full : Full s
+  pub network : networkStop (s .network) ≡ 0
+  pub clock : T (le zeroF (s .head .clock .0 .0))
+  pub held : Held (s .head .clock)
+  pub line : LineOk (s .network) (sentOf s) (s .head .clock) (s .line) (s .waiting) (s .«on_line»)
+  pub parts : (i : ℕ) → i < s .network .senders → PartOk (s .network) (s .head .clock) (senderAt s i) (togglerAt s i) (meterAt s i)
+  pub records : (i : ℕ) → i < s .network .senders → meterAt s i .records + countOf i (waitingItems s) + countOf i (onLinePackets s) ≤ senderAt s i .«packets_sent»
+
+-- a packet that neither waits nor is on the line, and is not counted: its sender has room for it
+pub record Loose (s : Simulation) (p : Packet) : Type 0 where
+  pub packet : PacketOk (s .network .senders) (sentOf s) (s .head .clock) p
+  pub room : meterAt s (p .sender) .records + countOf (p .sender) (waitingItems s) + countOf (p .sender) (onLinePackets s) + 1 ≤ senderAt s (p .sender) .«packets_sent»
+
+-- place k of the queue: the part's own next time, held, not below the clock
+pub record PlaceOk (s : Simulation) (k : ℕ) : Type 0 where
+  pub own : sameTime (queuedAt s k) (nextTimeOf s k) ≡ true
+  pub ahead : heldQueued s (queuedAt s k) ≡ true
+
+-- every place but that of part j
+abbrev pub QueueBut : ℕ → Simulation → Type 0
+QueueBut j s = (k : ℕ) → k < queuePlaces → (k ≡ j → ⊥) → PlaceOk s k
+
+abbrev pub QueueOk : Simulation → Type 0
+QueueOk s = (k : ℕ) → k < queuePlaces → PlaceOk s k
+
+-- between ticks, where part j is next: its own next time is the clock
+pub record Between (j : ℕ) (s : Simulation) : Type 0 where
+  pub body : Body s
+  pub next : s .head .next ≡ Next.Part j
+  pub own : sameTime (Some (s .head .clock)) (nextTimeOf s j) ≡ true
+  pub queue : QueueBut j s

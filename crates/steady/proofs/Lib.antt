@@ -1,0 +1,3 @@
+-- Steady is kept.
+pub mod Facts
+pub mod Lists

@@ -1,0 +1,48 @@
+-- Facts of every member of a list, and counts. Assumes nothing.
+use mathlib.Core.Path.{_≡_, refl, sym, ap, _∙_}
+use mathlib.Core.Bool.{Bool, true, _&&_, cond}
+use mathlib.Core.List.{List, [], _∷_, _++_, map}
+use Prim.Native.Nat.{ℕ, _+_}
+use native.Mathlib.Nat.{add-assoc, zero-add}
+use lib.Dec.{eqb}
+use Rattle.components.specs.declared.packet.Packet.{Packet}
+use Rattle.remy.specs.Fit.{every, countOf}
+use Rattle.remy.proofs.Facts.{both-l, both-r, both-i}
+use Rattle.steady.proofs.Facts.{All}
+
+module _ {A : Type 0} (P : A → Type 0) where
+  pub all-first : (x : A) (xs : List A) → All P (x ∷ xs) → P x
+  all-first x xs a = a .0
+
+  pub all-rest : (x : A) (xs : List A) → All P (x ∷ xs) → All P xs
+  all-rest x xs a = a .1
+
+  pub all-append : (xs ys : List A) → All P xs → All P ys → All P (xs ++ ys)
+  all-append [] ys a b = b
+  all-append (x ∷ xs) ys a b = (a .0, all-append xs ys (a .1) b)
+
+pub all-map : {A : Type 0} (P Q : A → Type 0) → ((x : A) → P x → Q x) → (xs : List A) → All P xs → All Q xs
+all-map P Q f [] a = tt
+all-map P Q f (x ∷ xs) a = (f x (a .0), all-map P Q f xs (a .1))
+
+-- of the members' images
+pub all-mapped : {A B : Type 0} (P : B → Type 0) (f : A → B) (xs : List A) → All (λ x. P (f x)) xs → All P (map f xs)
+all-mapped P f [] a = tt
+all-mapped P f (x ∷ xs) a = (a .0, all-mapped P f xs (a .1))
+
+pub all-unmapped : {A B : Type 0} (P : B → Type 0) (f : A → B) (xs : List A) → All P (map f xs) → All (λ x. P (f x)) xs
+all-unmapped P f [] a = tt
+all-unmapped P f (x ∷ xs) a = (a .0, all-unmapped P f xs (a .1))
+
+-- a test of every member
+pub every-all : {A : Type 0} (f : A → Bool) (xs : List A) → every f xs ≡ true → All (λ x. f x ≡ true) xs
+every-all f [] e = tt
+every-all f (x ∷ xs) e = (both-l (f x) (every f xs) e, every-all f xs (both-r (f x) (every f xs) e))
+
+pub all-every : {A : Type 0} (f : A → Bool) (xs : List A) → All (λ x. f x ≡ true) xs → every f xs ≡ true
+all-every f [] a = refl
+all-every f (x ∷ xs) a = both-i (f x) (every f xs) (a .0) (all-every f xs (a .1))
+
+pub count-append : (i : ℕ) (xs ys : List Packet) → countOf i (xs ++ ys) ≡ countOf i xs + countOf i ys
+count-append i [] ys = sym (zero-add (countOf i ys))
+count-append i (p ∷ xs) ys = ap (λ n. cond (eqb (p .sender) i) 1 0 + n) (count-append i xs ys) ∙ sym (add-assoc (cond (eqb (p .sender) i) 1 0) (countOf i xs) (countOf i ys))

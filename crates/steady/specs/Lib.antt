@@ -1,0 +1,2 @@
+-- What an accepted tick keeps.
+pub mod Steady
