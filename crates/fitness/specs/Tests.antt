@@ -69,6 +69,10 @@ pub record Framed (bits n : ℕ) (waits moves : Ring) : Type 0 where
   pub mstart : moves .start < 512
   pub mcount : moves .count ≤ 512
 
+-- no packet on the line is due later than a time
+unfoldable pub soonTest : Time → List Transit → Ring → Bool
+soonTest latest slots ring = every (λ x. le (x .due .0 .0) (latest .0 .0)) (items noTransit slots ring)
+
 -- ---- packets
 
 -- a time that is held, and not after the clock

@@ -1,0 +1,252 @@
+-- A packet that leaves, starts or arrives keeps the facts of a state, the queue apart. Assumes nothing.
+use mathlib.Core.Path.{_≡_, refl, sym, ap, subst, _∙_}
+use mathlib.Core.Bool.{Bool, true, false, cond}
+use mathlib.Core.List.{List, [], _∷_, _++_, map}
+use Prim.Native.Nat.{ℕ, _+_, _≤_, _<_}
+use native.Mathlib.Nat.{add-zero}
+use native.Mathlib.Omega.{arith}
+use borrow.Author.Tests.{leb-false, eq-eqb, eqb-true}
+use lib.Dec.{T, leb, eqb}
+use lib.ListN.{set}
+use lib.Ieee.{binary64, add, le}
+use lib.Ieee.Bits.{is-true}
+use Rattle.quantities.specs.declared.time.Time.{Time}
+use Rattle.quantities.specs.declared.time_span.TimeSpan.{TimeSpan}
+use Rattle.quantities.specs.Doubles.{zeroF, power, least, largest, inRange}
+use Rattle.quantities.specs.Units.{spanOf, rateOf, amountOf, amountOverRate, after}
+use Rattle.quantities.proofs.Order.{le-known-r, le-refl}
+use Rattle.quantities.proofs.Ranges.{within, within-wider, add-within, sending}
+use Rattle.components.specs.declared.packet.Packet.{Packet}
+use Rattle.components.specs.declared.packet.Transit.{Transit}
+use Rattle.components.specs.declared.link.Line.{Line}
+use Rattle.components.specs.Ring.{places, placeAfter, popped, items}
+use Rattle.components.specs.NewTime.{timeFine, newTime}
+use Rattle.components.specs.Link.{admitted, departed, isDue, isFree, startedLine}
+use Rattle.components.proofs.Items.{items-push, items-pop, push-sound, pop-sound}
+use Rattle.components.proofs.Limits.{due-count, free-count}
+use Rattle.remy.specs.declared.network.RemyNetwork.{RemyNetwork}
+use Rattle.remy.specs.declared.simulation.Simulation.{Simulation}
+use Rattle.remy.specs.State.{noPacket, noTransit, senderAt, meterAt, firstOf, frontOf, waitingItems, onLineItems, onLinePackets, packetBits, totalBits, withLine, withWaiting, withOnLine}
+use Rattle.remy.specs.Fit.{countOf, rising}
+use Rattle.remy.proofs.Lists.{map-append, bits-append}
+use Rattle.remy.proofs.Facts.{both-l, both-r, both-i, range-low, range-high}
+use Rattle.remy.proofs.Networks.{FitNetwork, fit-network, some-bits, few-bits, delay-from-zero, sending-from-zero}
+use Rattle.remy.proofs.Steps.{cond-elim}
+use Rattle.steady.proofs.Facts.{All, NotAfter, Held, PacketOk, TransitOk, LineOk, sentOf, Body, Loose}
+use Rattle.steady.proofs.Lists.{all-append, all-map, count-append}
+
+-- ---- lists with one member more at the end
+
+pub count-end : (i : ℕ) (xs : List Packet) (p : Packet) → countOf i (xs ++ (p ∷ [])) ≡ countOf i xs + cond (eqb (p .sender) i) 1 0
+count-end i xs p = count-append i xs (p ∷ []) ∙ ap (λ n. countOf i xs + n) (add-zero (cond (eqb (p .sender) i) 1 0))
+
+rising-rest : (x : Transit) (xs : List Transit) → rising (x ∷ xs) ≡ true → rising xs ≡ true
+rising-rest x [] e = refl
+rising-rest x (y ∷ ys) e = both-r (le (x .due .0 .0) (y .due .0 .0)) (rising (y ∷ ys)) e
+
+rising-end : (y : Transit) (xs : List Transit) → rising xs ≡ true → All (λ x. NotAfter (x .due) (y .due)) xs → rising (xs ++ (y ∷ [])) ≡ true
+rising-end y [] e a = refl
+rising-end y (x ∷ []) e a = both-i (le (x .due .0 .0) (y .due .0 .0)) true (is-true (le (x .due .0 .0) (y .due .0 .0)) (a .0)) refl
+rising-end y (x ∷ (z ∷ zs)) e a =
+    both-i (le (x .due .0 .0) (z .due .0 .0)) (rising ((z ∷ zs) ++ (y ∷ []))) (both-l (le (x .due .0 .0) (z .due .0 .0)) (rising (z ∷ zs)) e)
+    (rising-end y (z ∷ zs) (both-r (le (x .due .0 .0) (z .due .0 .0)) (rising (z ∷ zs)) e) (a .1))
+
+-- ---- new times
+
+-- a new time that is taken is not before the clock
+pub new-ahead : (clock : Time) (span : TimeSpan) → newTime clock span .number ≡ 0 → NotAfter clock (after clock span)
+unfolding newTime
+new-ahead clock span e = by (timeFine clock (after clock span)) refl
+  where
+    by : (b : Bool) → timeFine clock (after clock span) ≡ b → NotAfter clock (after clock span)
+    by true f = subst T (sym (both-r (inRange least largest (after clock span .0 .0)) (le (clock .0 .0) (after clock span .0 .0)) f)) tt
+    by false f = let no : ⊥ = omega (arith, rw f at e) in absurd no
+
+-- a span of at most 2^24 after a clock of at most 2^40 is held
+pub new-held : (clock : Time) (span : TimeSpan) → within (clock .0 .0) (power 40) → within (span .0) (power 24) → Held (after clock span)
+new-held clock span c d = add-within binary64 (clock .0 .0) (power 40) (span .0) (power 24) (power 41) c d tt tt (unfold add le in tt) tt .1 .1
+
+module _ {n : RemyNetwork} (f : FitNetwork n) where
+  pub delay-within : within (n .delay) (power 24)
+  delay-within = within-wider (n .delay) (power 20) (power 24) (delay-from-zero f, range-high zeroF (power 20) (n .delay) (f .delay)) (unfold le in tt)
+
+  pub sending-within : within (amountOverRate (amountOf (n .bits)) (rateOf (n .rate)) .0) (power 24)
+  sending-within = (
+    sending-from-zero f,
+    sending (n .bits) (n .rate) (some-bits f) (few-bits f) (range-low (power 0) (power 50) (n .rate) (f .rate)) (range-high (power 0) (power 50) (n .rate) (f .rate)) .2,
+  )
+
+-- ---- the steps
+
+-- the first packet that waits, on the line from the clock on, and the state then
+abbrev pub begun : Simulation → Transit
+begun s = record { packet = firstOf s; due = after (s .head .clock) (spanOf (s .network .delay)) }
+
+abbrev pub started : Simulation → Simulation
+started s =
+    let size = packetBits (s .network) (firstOf s) in
+    withLine (withOnLine s (set (s .«on_line») (placeAfter (s .line .«on_line»)) (begun s)))
+    (startedLine (s .line) size (after (s .head .clock) (amountOverRate size (rateOf (s .network .rate)))))
+
+module _ (s : Simulation) (b : Body s) where
+  -- the line alone changes
+  with-line : (l : Line) (waiting : List Packet) (moving : List Transit) → LineOk (s .network) (sentOf s) (s .head .clock) l waiting moving
+      → ((i : ℕ) → i < s .network .senders
+      → meterAt s i .records + countOf i (items noPacket waiting (l .waiting)) + countOf i (map (λ x. x .packet) (items noTransit moving (l .«on_line»))) ≤ senderAt s i .«packets_sent»)
+      → Body (withLine (withOnLine (withWaiting s waiting) moving) l)
+  with-line l waiting moving line records =
+      record {
+        full = record { waiting = line .waits .full; moving = line .moves .full; senders = b .full .senders; togglers = b .full .togglers; meters = b .full .meters; queue = b .full .queue };
+        network = b .network;
+        clock = b .clock;
+        held = b .held;
+        line = line;
+        parts = b .parts;
+        records = records;
+      }
+
+  -- ---- the first packet on the line leaves
+  module _ (e : isDue (s .line) (s .head .clock) (frontOf s) ≡ true) where
+    behind : List Transit
+    behind = items noTransit (s .«on_line») (popped (s .line .«on_line»))
+
+    some-move : 0 < s .line .«on_line» .count
+    some-move = due-count (s .line) (s .head .clock) (frontOf s) e
+
+    split-moving : onLineItems s ≡ frontOf s ∷ behind
+    unfolding behind
+    split-moving = items-pop (b .line .moves) noTransit some-move
+
+    moving-now : All (TransitOk (s .network .senders) (sentOf s) (s .head .clock) (s .network .delay)) (frontOf s ∷ behind)
+    moving-now = subst (All (TransitOk (s .network .senders) (sentOf s) (s .head .clock) (s .network .delay))) split-moving (b .line .moving-ok)
+
+    fewer-move : (i : ℕ) → countOf i (onLinePackets s) ≡ cond (eqb (frontOf s .packet .sender) i) 1 0 + countOf i (map (λ x. x .packet) behind)
+    fewer-move i = ap (λ (l : List Transit). countOf i (map (λ x. x .packet) l)) split-moving
+
+    pub leave-body : Body (withLine s (departed (s .line)))
+    unfolding behind
+    leave-body =
+        with-line (departed (s .line)) (s .waiting) (s .«on_line»)
+        (record {
+          waits = b .line .waits;
+          moves = pop-sound (b .line .moves) some-move;
+          bits = b .line .bits;
+          waiting-ok = b .line .waiting-ok;
+          moving-ok = moving-now .1;
+          order = rising-rest (frontOf s) behind (subst (λ (l : List Transit). rising l ≡ true) split-moving (b .line .order));
+          free = b .line .free;
+        })
+        (λ i h. omega (arith, b .records i h, fewer-move i))
+
+    pub leave-loose : Loose (withLine s (departed (s .line))) (frontOf s .packet)
+    unfolding behind
+    leave-loose =
+        let p = frontOf s .packet in
+        let ok : PacketOk (s .network .senders) (sentOf s) (s .head .clock) p = moving-now .0 .packet in
+        let counted : countOf (p .sender) (onLinePackets s) ≡ 1 + countOf (p .sender) (map (λ x. x .packet) behind) = fewer-move (p .sender) ∙ rw (eq-eqb (p .sender) (p .sender) refl) in
+        record { packet = ok; room = omega (arith, b .records (p .sender) (ok .own), counted) }
+
+  -- ---- the first packet that waits starts
+  module _ (early : T (le (s .head .clock .0 .0) (power 40))) (e : isFree (s .line) (s .head .clock) ≡ true) (room : leb places (s .line .«on_line» .count) ≡ false)
+      (free : newTime (s .head .clock) (amountOverRate (packetBits (s .network) (firstOf s)) (rateOf (s .network .rate))) .number ≡ 0)
+      (due : newTime (s .head .clock) (spanOf (s .network .delay)) .number ≡ 0) where
+    ok : FitNetwork (s .network)
+    ok = fit-network (s .network) (b .network)
+
+    still : List Packet
+    still = items noPacket (s .waiting) (popped (s .line .waiting))
+
+    some-wait : 0 < s .line .waiting .count
+    some-wait = free-count (s .line) (s .head .clock) e
+
+    split-waiting : waitingItems s ≡ firstOf s ∷ still
+    unfolding still
+    split-waiting = items-pop (b .line .waits) noPacket some-wait
+
+    waiting-now : All (PacketOk (s .network .senders) (sentOf s) (s .head .clock)) (firstOf s ∷ still)
+    waiting-now = subst (All (PacketOk (s .network .senders) (sentOf s) (s .head .clock))) split-waiting (b .line .waiting-ok)
+
+    grown-moving : onLineItems (started s) ≡ onLineItems s ++ (begun s ∷ [])
+    grown-moving = items-push (b .line .moves) noTransit (begun s) (leb-false places (s .line .«on_line» .count) room)
+
+    begun-ok : TransitOk (s .network .senders) (sentOf s) (s .head .clock) (s .network .delay) (begun s)
+    begun-ok =
+        let ahead : NotAfter (s .head .clock) (begun s .due) = new-ahead (s .head .clock) (spanOf (s .network .delay)) due in
+        record {
+          packet = waiting-now .0;
+          held = new-held (s .head .clock) (spanOf (s .network .delay)) (b .clock, early) (delay-within ok);
+          ahead = ahead;
+          soon = le-refl (begun s .due .0 .0) (le-known-r (s .head .clock .0 .0) (begun s .due .0 .0) ahead);
+        }
+
+    -- both counts together stay
+    same-count : (i : ℕ) → countOf i (waitingItems (started s)) + countOf i (onLinePackets (started s)) ≡ countOf i (waitingItems s) + countOf i (onLinePackets s)
+    unfolding still
+    same-count i =
+        let one : ℕ = cond (eqb (firstOf s .sender) i) 1 0 in
+        let fewer : countOf i (waitingItems s) ≡ one + countOf i still = ap (countOf i) split-waiting in
+        let more : countOf i (onLinePackets (started s)) ≡ countOf i (onLinePackets s) + one =
+        ap (λ (l : List Transit). countOf i (map (λ x. x .packet) l)) grown-moving
+        ∙ ap (countOf i) (map-append (λ (x : Transit). x .packet) (onLineItems s) (begun s ∷ []))
+        ∙ count-end i (onLinePackets s) (firstOf s) in
+        omega (arith, fewer, more)
+
+    pub start-body : Body (started s)
+    unfolding still
+    start-body =
+        let size : Packet → ℕ = λ p. packetBits (s .network) p .0 in
+        let Ok : Transit → Type 0 = TransitOk (s .network .senders) (sentOf s) (s .head .clock) (s .network .delay) in
+        let total : s .line .«buffer_contains» .0 ≡ size (firstOf s) + totalBits size still = b .line .bits ∙ ap (totalBits size) split-waiting in
+        with-line (started s .line) (s .waiting) (started s .«on_line»)
+        (record {
+          waits = pop-sound (b .line .waits) some-wait;
+          moves = push-sound (b .line .moves) (begun s) (leb-false places (s .line .«on_line» .count) room);
+          bits = omega (arith, total);
+          waiting-ok = waiting-now .1;
+          moving-ok = subst (All Ok) (sym grown-moving) (all-append Ok (onLineItems s) (begun s ∷ []) (b .line .moving-ok) (begun-ok, tt));
+          order =
+              subst (λ (l : List Transit). rising l ≡ true) (sym grown-moving)
+              (rising-end (begun s) (onLineItems s) (b .line .order) (all-map Ok (λ x. NotAfter (x .due) (begun s .due)) (λ x q. q .soon) (onLineItems s) (b .line .moving-ok)));
+          free = new-held (s .head .clock) _ (b .clock, early) (sending-within ok);
+        })
+        (λ i h. omega (arith, b .records i h, same-count i))
+
+    -- what left and is not counted stays so
+    pub start-loose : (p : Packet) → Loose s p → Loose (started s) p
+    start-loose p l = record { packet = l .packet; room = omega (arith, l .room, same-count (p .sender)) }
+
+  -- ---- a loose packet is put at the end of those that wait
+  module _ (p : Packet) (l : Loose s p) (room : leb places (s .line .waiting .count) ≡ false) where
+    abbrev arrived : Simulation
+    arrived = withLine (withWaiting s (set (s .waiting) (placeAfter (s .line .waiting)) p)) (admitted (s .line) (packetBits (s .network) p))
+
+    grown-waiting : waitingItems arrived ≡ waitingItems s ++ (p ∷ [])
+    grown-waiting = items-push (b .line .waits) noPacket p (leb-false places (s .line .waiting .count) room)
+
+    -- each sender has room for what of it arrives
+    room-for : (i : ℕ) → i < s .network .senders
+        → meterAt s i .records + countOf i (waitingItems s) + countOf i (onLinePackets s) + cond (eqb (p .sender) i) 1 0 ≤ senderAt s i .«packets_sent»
+    room-for i h =
+        cond-elim (λ (n : ℕ). meterAt s i .records + countOf i (waitingItems s) + countOf i (onLinePackets s) + n ≤ senderAt s i .«packets_sent») (eqb (p .sender) i) 1 0
+        (λ own. subst (λ (j : ℕ). meterAt s j .records + countOf j (waitingItems s) + countOf j (onLinePackets s) + 1 ≤ senderAt s j .«packets_sent») (eqb-true (p .sender) i own) (l .room))
+        (λ other. omega (arith, b .records i h))
+
+    more-wait : (i : ℕ) → countOf i (waitingItems arrived) ≡ countOf i (waitingItems s) + cond (eqb (p .sender) i) 1 0
+    more-wait i = ap (countOf i) grown-waiting ∙ count-end i (waitingItems s) p
+
+    pub arrive-body : Body (withLine (withWaiting s (set (s .waiting) (placeAfter (s .line .waiting)) p)) (admitted (s .line) (packetBits (s .network) p)))
+    arrive-body =
+        let size : Packet → ℕ = λ q. packetBits (s .network) q .0 in
+        let Ok : Packet → Type 0 = PacketOk (s .network .senders) (sentOf s) (s .head .clock) in
+        let total : totalBits size (waitingItems arrived) ≡ totalBits size (waitingItems s) + (size p + 0) = ap (totalBits size) grown-waiting ∙ bits-append size (waitingItems s) (p ∷ []) in
+        with-line (arrived .line) (arrived .waiting) (s .«on_line»)
+        (record {
+          waits = push-sound (b .line .waits) p (leb-false places (s .line .waiting .count) room);
+          moves = b .line .moves;
+          bits = omega (arith, b .line .bits, total);
+          waiting-ok = subst (All Ok) (sym grown-waiting) (all-append Ok (waitingItems s) (p ∷ []) (b .line .waiting-ok) (l .packet, tt));
+          moving-ok = b .line .moving-ok;
+          order = b .line .order;
+          free = b .line .free;
+        })
+        (λ i h. omega (arith, room-for i h, more-wait i))

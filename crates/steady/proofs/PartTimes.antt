@@ -1,0 +1,153 @@
+-- Times that a sender, a toggler and a meter get: new times and timers, draws, and spans since a past time. Assumes nothing.
+use mathlib.Core.Path.{_≡_, refl, sym, subst}
+use mathlib.Core.Bool.{Bool, true, false, _&&_}
+use Prim.Native.Nat.{ℕ, zero, suc, _-_, _*_, _/_, _≤_}
+use native.Mathlib.Nat.{mul-assoc, mul-le-mul-right, sub-le}
+use native.Mathlib.Nat
+use native.Mathlib.Omega.{arith}
+use borrow.Author.Tests.{eqb-true}
+use lib.Dec.{T, eqb}
+use lib.IntN.{negsuc}
+use lib.Ieee.{Float, Format, binary64, fin, add, sub, lt, le, fits}
+use lib.Ieee.Scale.{finite}
+use lib.Ieee.Positive.{num, den}
+use Rattle.quantities.specs.declared.time.Time.{Time}
+use Rattle.quantities.specs.declared.time.OptionTime.{OptionTime}
+use Rattle.quantities.specs.declared.time.OptionTime.the-variants.{None, Some}
+use Rattle.quantities.specs.declared.time_span.TimeSpan.{TimeSpan}
+use Rattle.quantities.specs.Doubles.{zeroF, power, least, largest, inRange}
+use Rattle.quantities.specs.Units.{spanOf, since, spanSum}
+use Rattle.quantities.specs.Units.{after as spanAfter}
+use Rattle.quantities.proofs.Order.{le-trans, le-refl, le-known-r, lt→le}
+use Rattle.quantities.proofs.Values.{Is, Rounds, own, le-is, rounds-below, rounds-from-zero, sub-rounds}
+use Rattle.quantities.proofs.Ranges.{within, within-finite, test→within, add-within}
+use Rattle.quantities.proofs.Uniform.{sample-within, draw-fine}
+use Rattle.rand.specs.declared.generator.Rng.{Rng}
+use Rattle.rand.specs.declared.distribution.ContinuousDistribution.{ContinuousDistribution}
+use Rattle.rand.specs.declared.distribution.ContinuousDistribution.the-variants.{Always, Uniform}
+use Rattle.rand.specs.Generator.{outputOf}
+use Rattle.rand.specs.Draws.{sampleOf, unitOf, uniformOf, drawOf, PositiveDraw, redraw}
+use Rattle.meters.specs.Meter.{totalFit}
+use Rattle.components.specs.declared.lossy.Policy.{Policy}
+use Rattle.components.specs.declared.lossy.Policy.the-variants as Policy
+use Rattle.components.specs.declared.lossy.TimerSet.{TimerSet}
+use Rattle.components.specs.NewTime.{timeFine, newTime}
+use Rattle.components.specs.Sender.{timerIn, timerSent}
+use Rattle.remy.specs.Network.{windowFit, gapFit, timesFit, policyFit}
+use Rattle.remy.proofs.Facts.{both-l, both-r, range-low, range-high, range-i}
+use Rattle.remy.proofs.Parts.{new-is}
+use Rattle.remy.proofs.Steps.{cond-elim}
+use Rattle.steady.proofs.Facts.{NotAfter, Held, Past, TimerIfAny}
+
+-- a clock that stop 10 lets pass
+pub record Early (clock : Time) : Type 0 where
+  pub low : T (le zeroF (clock .0 .0))
+  pub high : T (le (clock .0 .0) (power 40))
+
+pub now-past : (clock : Time) → Early clock → Past clock clock
+now-past clock c = record { low = c .low; high = le-refl (clock .0 .0) (le-known-r zeroF (clock .0 .0) (c .low)) }
+
+-- ---- new times: a span of at most 2^20 after the clock
+
+pub new-held : (clock : Time) (span : TimeSpan) → Early clock → within (span .0) (power 20) → newTime clock span .number ≡ 0 → Held (newTime clock span .time)
+new-held clock span c w e =
+    subst Held (sym (new-is clock span e))
+    (add-within binary64 (clock .0 .0) (power 40) (span .0) (power 20) (power 41) (c .low, c .high) w tt tt (unfold add le in tt) tt .1 .1)
+
+pub new-ahead : (clock : Time) (span : TimeSpan) → newTime clock span .number ≡ 0 → NotAfter clock (newTime clock span .time)
+unfolding newTime
+new-ahead clock span e = by (timeFine clock (spanAfter clock span)) refl
+  where
+    by : (b : Bool) → timeFine clock (spanAfter clock span) ≡ b → NotAfter clock (newTime clock span .time)
+    by true f = rw f (subst T (sym (both-r (inRange least largest (spanAfter clock span .0 .0)) (le (clock .0 .0) (spanAfter clock span .0 .0)) f)) tt)
+    by false f = let no : ⊥ = omega (arith, rw f at e) in absurd no
+
+-- ---- timers
+
+-- a gap is at most 2^20
+gap-within : (gap : Float) → gapFit gap ≡ true → within gap (power 20)
+gap-within gap e = (
+  le-trans zeroF (fin false 1 (negsuc 19)) gap (unfold le in tt) (range-low (fin false 1 (negsuc 19)) (power 20) gap e),
+  range-high (fin false 1 (negsuc 19)) (power 20) gap e,
+)
+
+pub timer-in-ok : (most : ℕ) (gap : Float) (clock : Time) → policyFit (Policy.Timed most gap) ≡ true → Early clock
+    → TimerIfAny (Policy.Timed most gap) clock (timerIn clock gap .timer)
+unfolding timerIn
+timer-in-ok most gap clock f c =
+    let a = newTime clock (spanOf gap) in
+    cond-elim (λ (x : TimerSet). TimerIfAny (Policy.Timed most gap) clock (x .timer)) (eqb (a .number) 0)
+    (record { number = 0; timer = Some (a .time) }) (record { number = a .number; timer = None })
+    (λ e. let z = eqb-true (a .number) 0 e in
+    record {
+      timed = refl;
+      held = new-held clock (spanOf gap) c (gap-within gap (both-r (windowFit most) (gapFit gap) f)) z;
+      ahead = new-ahead clock (spanOf gap) z;
+    })
+    (λ e. tt)
+
+pub timer-sent-ok : (policy : Policy) (timer : OptionTime) (clock : Time) → policyFit policy ≡ true → Early clock → TimerIfAny policy clock timer
+    → TimerIfAny policy clock (timerSent policy timer clock .timer)
+unfolding timerSent
+timer-sent-ok (Policy.Held w) timer clock f c k = k
+timer-sent-ok (Policy.Grown first most) timer clock f c k = k
+timer-sent-ok (Policy.Timed most gap) (Some t) clock f c k = k
+timer-sent-ok (Policy.Timed most gap) None clock f c k = timer-in-ok most gap clock f c
+
+-- ---- draws of an accepted network are in 0..2^20
+
+-- an output is below 2^64, so a 4,096th of it is below 2^52
+unit-within : (g : Rng) → within (unitOf g .value) (power 0)
+unfolding unitOf sampleOf outputOf
+unit-within g = sample-within (outputOf g / 4096) (omega arith)
+
+draw-within : (d : ContinuousDistribution) → timesFit d ≡ true → (g : Rng) → within (drawOf d g .value) (power 20)
+unfolding drawOf uniformOf
+draw-within (Always v) h g = (lt→le zeroF v (subst T (sym (both-l (lt zeroF v) (le v (power 20)) h)) tt), subst T (sym (both-r (lt zeroF v) (le v (power 20)) h)) tt)
+draw-within (Uniform lo hi) h g =
+    let ends = both-l (le zeroF lo && lt lo hi) (le hi (power 20)) h in
+    draw-fine (unitOf g .value) lo hi (unit-within g)
+    (subst T (sym (both-l (le zeroF lo) (lt lo hi) ends)) tt, lt→le lo hi (subst T (sym (both-r (le zeroF lo) (lt lo hi) ends)) tt))
+    (subst T (sym (both-r (le zeroF lo && lt lo hi) (le hi (power 20)) h)) tt) .1
+
+-- a draw that is spent has the value 0
+pub redraw-within : (tries : ℕ) (d : ContinuousDistribution) → timesFit d ≡ true → (g : Rng) → within (redraw tries d g .value) (power 20)
+unfolding redraw
+redraw-within zero d h g = (unfold le in tt, unfold le in tt)
+redraw-within (suc tries) d h g =
+    let s = drawOf d g in
+    let more = redraw-within tries d h (s .rng) in
+    cond-elim (λ (x : PositiveDraw). within (x .value) (power 20)) (lt zeroF (s .value)) (record { number = 0; value = s .value; rng = s .rng }) (redraw tries d (s .rng))
+    (λ e. draw-within d h g) (λ e. more)
+
+-- ---- spans since a past time
+
+-- a difference of two that are in order is at most a double of the format that the first is at most
+sub-below : (f : Format) (x y hi : Float) → T (fits f hi) → T (finite hi) → within y x → T (le x hi) → within (sub f x y) hi
+sub-below f x y hi fine t w l =
+    let from : T (le zeroF x) = le-trans zeroF y x (w .0) (w .1) in
+    let s : T (finite x) = within-finite x hi (from, l) t in
+    let p : Is x (num x) (den x) = own x s from in
+    let q : Is y (num y) (den y) = own y (within-finite y x w s) (w .0) in
+    let top : Is hi (num hi) (den hi) = own hi t (le-trans zeroF x hi from l) in
+    let r : Rounds f (sub f x y) (num x * den y - num y * den x) (den x * den y) = sub-rounds f p q (w .1) in
+    (rounds-from-zero r, rounds-below f fine top r (go (num x) (den x) (num y) (den y) (num hi) (den hi) (le-is p top l)))
+  where
+    go : (a c b d m n : ℕ) → a * n ≤ m * c → (a * d - b * c) * n ≤ m * (c * d)
+    go a c b d m n h =
+        let less : (a * d - b * c) * n ≤ a * d * n = mul-le-mul-right n (sub-le (a * d) (b * c)) in
+        let order : a * n * d ≤ m * c * d = mul-le-mul-right d h in
+        let left : a * d * n ≡ a * n * d = Nat.mul-right-comm a d n in
+        let right : m * c * d ≡ m * (c * d) = mul-assoc m c d in
+        Nat.le-trans less (rw (left, ← right) order)
+
+pub since-within : (clock t : Time) → Early clock → Past clock t → within (since clock t .0) (power 41)
+since-within clock t c p =
+    sub-below binary64 (clock .0 .0) (t .0 .0) (power 41) (unfold fits in tt) tt (p .low, p .high)
+    (le-trans (clock .0 .0) (power 40) (power 41) (c .high) (unfold le in tt))
+
+-- a total takes in such a span
+pub total-grows : (total : TimeSpan) (clock t : Time) → totalFit total ≡ true → Early clock → Past clock t → totalFit (spanSum total (since clock t)) ≡ true
+total-grows total clock t f c p =
+    let r = add-within binary64 (total .0) largest (since clock t .0) (power 41) largest (test→within largest (total .0) f) (since-within clock t c p) tt tt (unfold add le in tt) tt in
+    range-i zeroF largest (spanSum total (since clock t) .0) (r .1 .0) (r .1 .1)

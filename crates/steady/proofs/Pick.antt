@@ -1,0 +1,417 @@
+-- The pick: where there is a sender, the least queued time becomes the clock, and then every part's own next time is what it was. Assumes nothing.
+use mathlib.Core.Path.{_≡_, refl, sym, ap, ap₂, subst, _∙_}
+use mathlib.Core.Bool.{Bool, true, false, not, cond, false≢true}
+use mathlib.Core.List.{List, [], _∷_}
+use Prim.Native.Nat.{ℕ, _≤_, _<_}
+use native.Mathlib.Omega.{arith}
+use borrow.Author.Tests.{eqb-true, eqb-false}
+use lib.Dec.{T, eqb}
+use lib.ListN.{set, length-set}
+use lib.Seq.{getD-set-other}
+use lib.Ieee.{Float, binary64, le, eq, isNan}
+use lib.Ieee.Bits.{is-true}
+use Rattle.quantities.specs.declared.time.Time.{Time}
+use Rattle.quantities.specs.declared.time.OptionTime.{OptionTime}
+use Rattle.quantities.specs.declared.time.OptionTime.the-variants.{None, Some}
+use Rattle.quantities.specs.Doubles.{zeroF, power, earlier}
+use Rattle.quantities.specs.Units.{spanOf, latestOf, earliestOf, earliestOptOf}
+use Rattle.quantities.specs.Units.{after as spanAfter}
+use Rattle.quantities.proofs.Order.{le-known-l, le-known-r, le-trans, le-antisym, eq→le, eq→ge, eq-trans, later-left, later-right, later-least, earlier-left, earlier-right, earlier-most}
+use Rattle.quantities.proofs.Ranges.{test→within, within-finite, due-order}
+use Rattle.meters.specs.declared.meter.AverageFlowMeter.{AverageFlowMeter}
+use Rattle.components.specs.declared.packet.Packet.{Packet}
+use Rattle.components.specs.declared.packet.Transit.{Transit}
+use Rattle.components.specs.declared.link.Line.{Line}
+use Rattle.components.specs.declared.lossy.Policy.{Policy}
+use Rattle.components.specs.declared.lossy.Enabled.{Enabled}
+use Rattle.components.specs.declared.lossy.SenderState.{SenderState}
+use Rattle.components.specs.declared.lossy.SenderState.the-variants as State
+use Rattle.components.specs.declared.tick_queue.Queued.{Queued}
+use Rattle.components.specs.declared.tick_queue.Picked.{Picked}
+use Rattle.components.specs.Link.{nextTransmit, nextDeliver, nextTick}
+use Rattle.components.specs.Sender.{maySend, nextSend, stateNext, senderNext}
+use Rattle.components.specs.Queue.{queuePlaces, noQueued, pickOf}
+use Rattle.components.proofs.Items.{items-empty, items-pop}
+use Rattle.components.proofs.Least.{picked-nothing, picked-there, picked-inside, picked-le}
+use Rattle.remy.specs.declared.simulation.Next.the-variants as Next
+use Rattle.remy.specs.declared.simulation.Simulation.{Simulation}
+use Rattle.remy.specs.State.{Role, link, sender, toggler, nobody, roleOf, noPacket, noTransit, senderAt, togglerAt, meterAt, firstOf, frontOf, queuedAt, waitingItems, onLineItems, withHead, withQueue}
+use Rattle.remy.specs.Queue.{ownTime, nextTimeOf, partOf, headOf, removed, picked}
+use Rattle.remy.specs.Fit.{held, heldQueued, sameTime, rising}
+use Rattle.remy.proofs.Facts.{both-l, both-r}
+use Rattle.remy.proofs.Networks.{fit-network, few-senders, delay-from-zero}
+use Rattle.steady.proofs.Facts.{All, NotAfter, Held, Past, PastIfAny, PacketOk, TransitOk, TimerIfAny, StateOk, MeterOk, Body, sentOf, QueueOk, Between}
+use Rattle.steady.proofs.Lists.{all-map}
+use Rattle.steady.proofs.Requeue.{Real, role-at, role-of, Ahead, AheadIfAny, ahead-known, ahead-queued, same-self, front-ok, transmit-ahead, deliver-ahead, send-ahead, timer-ahead}
+
+-- ---- times that may be there
+
+-- a time, if there is one, not before t
+abbrev FromIfAny : Time → OptionTime → Type 0
+FromIfAny t None = Unit {0}
+FromIfAny t (Some u) = NotAfter t u
+
+-- the first of the packets on the line, if there is one, due at t or later
+abbrev FirstFrom : Time → List Transit → Type 0
+FirstFrom t [] = Unit {0}
+FirstFrom t (x ∷ xs) = NotAfter t (x .due)
+
+test : (b : Bool) → b ≡ true → T b
+test b e = subst T (sym e) tt
+
+same-trans : (x y z : OptionTime) → sameTime x y ≡ true → sameTime y z ≡ true → sameTime x z ≡ true
+same-trans None None z h k = k
+same-trans None (Some u) z h k = absurd (false≢true h)
+same-trans (Some t) None z h k = absurd (false≢true h)
+same-trans (Some t) (Some u) None h k = absurd (false≢true k)
+same-trans (Some t) (Some u) (Some v) h k =
+    is-true (eq (t .0 .0) (v .0 .0)) (eq-trans (t .0 .0) (u .0 .0) (v .0 .0) (test (eq (t .0 .0) (u .0 .0)) h) (test (eq (u .0 .0) (v .0 .0)) k))
+
+from-same : (t : Time) (x y : OptionTime) → sameTime x y ≡ true → FromIfAny t x → FromIfAny t y
+from-same t None None e h = tt
+from-same t None (Some v) e h = absurd (false≢true e)
+from-same t (Some u) None e h = tt
+from-same t (Some u) (Some v) e h = le-trans (t .0 .0) (u .0 .0) (v .0 .0) h (eq→le (u .0 .0) (v .0 .0) (test (eq (u .0 .0) (v .0 .0)) e))
+
+queued-ahead : (s : Simulation) (x : OptionTime) → heldQueued s x ≡ true → AheadIfAny (s .head .clock) x
+queued-ahead s None e = tt
+queued-ahead s (Some t) e =
+    let late = le (s .head .clock .0 .0) (t .0 .0) in
+    record { held = test (held t) (both-l (held t) late e); from = test late (both-r (held t) late e) }
+
+ahead-later : (c t : Time) (x : OptionTime) → AheadIfAny c x → FromIfAny t x → AheadIfAny t x
+ahead-later c t None a f = tt
+ahead-later c t (Some u) a f = record { held = a .held; from = f }
+
+module _ (clock : Time) where
+  -- what is not before t is so of both that the earlier is taken of
+  from-left : (t : Time) (a b : OptionTime) → AheadIfAny clock a → AheadIfAny clock b → FromIfAny t (earliestOptOf a b) → FromIfAny t a
+  from-left t None b p q h = tt
+  from-left t (Some u) None p q h = h
+  from-left t (Some u) (Some v) p q h =
+      le-trans (t .0 .0) (earliestOf u v .0 .0) (u .0 .0) h (earlier-left (u .0 .0) (v .0 .0) (ahead-known p) (ahead-known q))
+
+  from-right : (t : Time) (a b : OptionTime) → AheadIfAny clock a → AheadIfAny clock b → FromIfAny t (earliestOptOf a b) → FromIfAny t b
+  from-right t None b p q h = h
+  from-right t (Some u) None p q h = tt
+  from-right t (Some u) (Some v) p q h =
+      le-trans (t .0 .0) (earliestOf u v .0 .0) (v .0 .0) h (earlier-right (u .0 .0) (v .0 .0) (ahead-known p) (ahead-known q))
+
+earlier-le : (x x' y : Float) → T (le x x') → T (not (isNan y)) → T (le (earlier x y) (earlier x' y))
+earlier-le x x' y h k =
+    let known = le-known-l x x' h in
+    earlier-most x' y (earlier x y) (le-trans (earlier x y) x x' (earlier-left x y known k) h) (earlier-right x y known k)
+
+same-earliest : (clock : Time) (a a' b : OptionTime) → AheadIfAny clock b → sameTime a a' ≡ true → sameTime (earliestOptOf a b) (earliestOptOf a' b) ≡ true
+same-earliest clock None None b p e = same-self clock b p
+same-earliest clock None (Some u) b p e = absurd (false≢true e)
+same-earliest clock (Some t) None b p e = absurd (false≢true e)
+same-earliest clock (Some t) (Some u) None p e = e
+same-earliest clock (Some t) (Some u) (Some v) p e =
+    let h = test (eq (t .0 .0) (u .0 .0)) e in
+    is-true (eq (earliestOf t v .0 .0) (earliestOf u v .0 .0))
+    (le-antisym (earliestOf t v .0 .0) (earliestOf u v .0 .0)
+    (earlier-le (t .0 .0) (u .0 .0) (v .0 .0) (eq→le (t .0 .0) (u .0 .0) h) (ahead-known p))
+    (earlier-le (u .0 .0) (t .0 .0) (v .0 .0) (eq→ge (t .0 .0) (u .0 .0) h) (ahead-known p)))
+
+-- ---- a clock that moves from c to t, where t is not after what is due
+
+module _ (c t : Time) (later : NotAfter c t) where
+  latest-same : (e : Time) → Held e → NotAfter t (latestOf c e) → sameTime (Some (latestOf c e)) (Some (latestOf t e)) ≡ true
+  latest-same e h k =
+      let x = c .0 .0 in
+      let y = t .0 .0 in
+      let z = e .0 .0 in
+      let known = le-known-l z (power 41) h in
+      let left = le-known-l x y later in
+      let right = le-known-r x y later in
+      is-true (eq (latestOf c e .0 .0) (latestOf t e .0 .0))
+      (le-antisym (latestOf c e .0 .0) (latestOf t e .0 .0)
+      (later-least x z (latestOf t e .0 .0) (le-trans x y (latestOf t e .0 .0) later (later-left y z right known)) (later-right y z right known))
+      (later-least y z (latestOf c e .0 .0) k (later-right x z left known)))
+
+  transmit-same : (l : Line) → Held (l .«earliest_transmit») → FromIfAny t (nextTransmit l c) → sameTime (nextTransmit l c) (nextTransmit l t) ≡ true
+  unfolding nextTransmit
+  transmit-same l h = by (eqb (l .waiting .count) 0)
+    where
+      e : Time
+      e = l .«earliest_transmit»
+
+      by : (z : Bool) → FromIfAny t (cond z None (Some (latestOf c e))) → sameTime (cond z None (Some (latestOf c e))) (cond z None (Some (latestOf t e))) ≡ true
+      by true f = refl
+      by false f = latest-same e h f
+
+  send-same : (sent : ℕ) (e : Enabled) → FromIfAny t (nextSend sent e c) → sameTime (nextSend sent e c) (nextSend sent e t) ≡ true
+  send-same sent e = by (maySend sent e)
+    where
+      by : (z : Bool) → FromIfAny t (cond z (Some c) None) → sameTime (cond z (Some c) None) (cond z (Some t) None) ≡ true
+      by true f = is-true (eq (c .0 .0) (t .0 .0)) (le-antisym (c .0 .0) (t .0 .0) later f)
+      by false f = refl
+
+  -- ---- what was past stays past
+  past-later : (u : Time) → Past c u → Past t u
+  past-later u p = record { low = p .low; high = le-trans (u .0 .0) (c .0 .0) (t .0 .0) (p .high) later }
+
+  any-later : (u : OptionTime) → PastIfAny c u → PastIfAny t u
+  any-later None p = tt
+  any-later (Some u) p = past-later u p
+
+  packet-later : (n : ℕ) (sent : ℕ → ℕ) (p : Packet) → PacketOk n sent c p → PacketOk n sent t p
+  packet-later n sent p ok = record { own = ok .own; first = ok .first; last = ok .last; past = past-later (p .«sent_time») (ok .past) }
+
+  meter-later : (size : ℕ) (m : AverageFlowMeter) → MeterOk size c m → MeterOk size t m
+  meter-later size m ok = record { start = any-later (m .«current_start») (ok .start); total = ok .total; sum = ok .sum; bits = ok .bits }
+
+  -- ---- what is due at t or later stays ahead
+  timer-later : (policy : Policy) (timer : OptionTime) → FromIfAny t timer → TimerIfAny policy c timer → TimerIfAny policy t timer
+  timer-later policy None f ok = tt
+  timer-later policy (Some u) f ok = record { timed = ok .timed; held = ok .held; ahead = f }
+
+  state-later : (policy : Policy) (sent : ℕ) (x : SenderState) → Held c → FromIfAny t (stateNext sent x c) → StateOk policy c x → StateOk policy t x
+  state-later policy sent State.WaitingForEnable h f ok = tt
+  state-later policy sent (State.Enabled e) h f ok =
+      let due = from-right c t (nextSend sent e c) (e .timer) (send-ahead sent e c h) (timer-ahead policy c (e .timer) (ok .timer)) f in
+      record {
+        started = past-later (e .started) (ok .started);
+        ack = ok .ack;
+        window = ok .window;
+        timer = timer-later policy (e .timer) due (ok .timer);
+      }
+
+  state-same : (policy : Policy) (sent : ℕ) (x : SenderState) → Held c → FromIfAny t (stateNext sent x c) → StateOk policy c x
+      → sameTime (stateNext sent x c) (stateNext sent x t) ≡ true
+  state-same policy sent State.WaitingForEnable h f ok = refl
+  state-same policy sent (State.Enabled e) h f ok =
+      let timer = timer-ahead policy c (e .timer) (ok .timer) in
+      same-earliest c (nextSend sent e c) (nextSend sent e t) (e .timer) timer
+      (send-same sent e (from-left c t (nextSend sent e c) (e .timer) (send-ahead sent e c h) timer f))
+
+  -- the packets on the line, whose due times rise, where the first is due at t or later
+  module _ (n : ℕ) (sent : ℕ → ℕ) (delay : Float) (soon : NotAfter (spanAfter c (spanOf delay)) (spanAfter t (spanOf delay))) where
+    transit-later : (x : Transit) → NotAfter t (x .due) → TransitOk n sent c delay x → TransitOk n sent t delay x
+    transit-later x f ok =
+        record {
+          packet = packet-later n sent (x .packet) (ok .packet);
+          held = ok .held;
+          ahead = f;
+          soon = le-trans (x .due .0 .0) (spanAfter c (spanOf delay) .0 .0) (spanAfter t (spanOf delay) .0 .0) (ok .soon) soon;
+        }
+
+    transits-later : (xs : List Transit) → rising xs ≡ true → FirstFrom t xs → All (TransitOk n sent c delay) xs → All (TransitOk n sent t delay) xs
+    transits-later [] r f ok = tt
+    transits-later (x ∷ []) r f ok = (transit-later x f (ok .0), tt)
+    transits-later (x ∷ (y ∷ ys)) r f ok =
+        let rise = le (x .due .0 .0) (y .due .0 .0) in
+        let next = le-trans (t .0 .0) (x .due .0 .0) (y .due .0 .0) f (test rise (both-l rise (rising (y ∷ ys)) r)) in
+        (transit-later x f (ok .0), transits-later (y ∷ ys) (both-r rise (rising (y ∷ ys)) r) next (ok .1))
+
+-- ---- the state with its clock at t, where no part is due before t, and part j is next and not queued
+
+abbrev moved : Simulation → ℕ → Time → Simulation
+moved s j t = withHead (withQueue s (set (s .queue) j noQueued)) (record { clock = t; next = Next.Part j })
+
+module _ (s : Simulation) (b : Body s) (t : Time) (ahead : Ahead (s .head .clock) t) (j : ℕ)
+    (least : (role : Role) → Real (s .network .senders) role → FromIfAny t (ownTime s role)) where
+  -- every part's own next time is what it was
+  own-same : (role : Role) → Real (s .network .senders) role → sameTime (ownTime s role) (ownTime (moved s j t) role) ≡ true
+  unfolding ownTime nextTick senderNext
+  own-same link r =
+      let c = s .head .clock in
+      let go = nextTransmit (s .line) c in
+      let leave = nextDeliver (s .line) (frontOf s .due) in
+      same-earliest c go (nextTransmit (s .line) t) leave (deliver-ahead s b)
+      (transmit-same c t (ahead .from) (s .line) (b .line .free) (from-left c t go leave (transmit-ahead s b) (deliver-ahead s b) (least link tt)))
+  own-same (sender i) r =
+      let x = senderAt s i in
+      state-same (s .head .clock) t (ahead .from) (s .network .policy) (x .«packets_sent») (x .state) (b .held) (least (sender i) r) (b .parts i r .state)
+  own-same (toggler i) r = same-self (s .head .clock) (Some (togglerAt s i .«next_toggle»)) (record { held = b .parts i r .toggle; from = b .parts i r .toggle-ahead })
+  own-same nobody r = absurd r
+
+  first-from : FirstFrom t (onLineItems s)
+  unfolding ownTime nextTick nextDeliver
+  first-from =
+      let c = s .head .clock in
+      by (eqb (s .line .«on_line» .count) 0) refl
+      (from-right c t (nextTransmit (s .line) c) (nextDeliver (s .line) (frontOf s .due)) (transmit-ahead s b) (deliver-ahead s b) (least link tt))
+    where
+      by : (z : Bool) → eqb (s .line .«on_line» .count) 0 ≡ z → FromIfAny t (cond z None (Some (frontOf s .due))) → FirstFrom t (onLineItems s)
+      by true e f = subst (FirstFrom t) (sym (items-empty noTransit (s .«on_line») (s .line .«on_line») (eqb-true (s .line .«on_line» .count) 0 e))) tt
+      by false e f =
+          let some : s .line .«on_line» .count ≡ 0 → ⊥ = eqb-false (s .line .«on_line» .count) 0 e in
+          subst (FirstFrom t) (sym (items-pop (b .line .moves) noTransit (omega arith))) f
+
+  from-zero : T (le zeroF (t .0 .0))
+  from-zero = le-trans zeroF (s .head .clock .0 .0) (t .0 .0) (b .clock) (ahead .from)
+
+  -- a due time of the old clock is not after that of the new one
+  due-later : NotAfter (spanAfter (s .head .clock) (spanOf (s .network .delay))) (spanAfter t (spanOf (s .network .delay)))
+  due-later =
+      let net = fit-network (s .network) (b .network) in
+      let delay = s .network .delay in
+      due-order binary64 (s .head .clock .0 .0) (t .0 .0) delay (b .clock, ahead .from) (within-finite (t .0 .0) (power 41) (from-zero, ahead .held) tt)
+      (within-finite delay (power 20) (test→within (power 20) delay (net .delay)) tt)
+      (delay-from-zero net)
+
+  moved-body : Body (moved s j t)
+  moved-body =
+      let net = s .network in
+      let c = s .head .clock in
+      let waiting = PacketOk (net .senders) (sentOf s) in
+      record {
+        full =
+            record {
+              waiting = b .full .waiting;
+              moving = b .full .moving;
+              senders = b .full .senders;
+              togglers = b .full .togglers;
+              meters = b .full .meters;
+              queue = length-set (s .queue) j noQueued ∙ b .full .queue;
+            };
+        network = b .network;
+        clock = from-zero;
+        held = ahead .held;
+        line =
+            record {
+              waits = b .line .waits;
+              moves = b .line .moves;
+              bits = b .line .bits;
+              waiting-ok = all-map (waiting c) (waiting t) (packet-later c t (ahead .from) (net .senders) (sentOf s)) (waitingItems s) (b .line .waiting-ok);
+              moving-ok =
+                  transits-later c t (ahead .from) (net .senders) (sentOf s) (net .delay) due-later (onLineItems s) (b .line .order) first-from (b .line .moving-ok);
+              order = b .line .order;
+              free = b .line .free;
+            };
+        parts = λ i h.
+            let ok = b .parts i h in
+            let x = senderAt s i in
+            record {
+              sent = ok .sent;
+              state = state-later c t (ahead .from) (net .policy) (x .«packets_sent») (x .state) (b .held) (unfold ownTime senderNext in least (sender i) h) (ok .state);
+              toggler-on = ok .toggler-on;
+              toggle = ok .toggle;
+              toggle-ahead = unfold ownTime in least (toggler i) h;
+              meter-on = ok .meter-on;
+              meter = meter-later c t (ahead .from) (net .bits) (meterAt s i) (ok .meter);
+            };
+        records = b .records;
+      }
+
+-- ---- the pick
+
+-- the picked part
+abbrev next : Simulation → ℕ
+next s = pickOf (s .queue) .part
+
+part-inside : (n : ℕ) (role : Role) → n ≤ 16 → Real n role → partOf role < queuePlaces
+part-inside n link few r = omega arith
+part-inside n (sender i) few r = omega arith
+part-inside n (toggler i) few r = omega arith
+part-inside n nobody few r = absurd r
+
+module _ (s : Simulation) (b : Body s) (q : QueueOk s) where
+  queued : (k : ℕ) → k < queuePlaces → AheadIfAny (s .head .clock) (queuedAt s k)
+  queued k h = queued-ahead s (queuedAt s k) (q k h .ahead)
+
+  module _ (t : Time) (e : pickOf (s .queue) .time ≡ Some t) where
+    inside : next s < queuePlaces
+    inside = subst (λ n. next s < n) (b .full .queue) (picked-inside (s .queue) e)
+
+    there : queuedAt s (next s) ≡ Some t
+    there = picked-there (s .queue) e
+
+    picked-ahead : Ahead (s .head .clock) t
+    picked-ahead = subst (AheadIfAny (s .head .clock)) there (queued (next s) inside)
+
+    -- no queued time is before the picked one
+    queued-from : (k : ℕ) → k < queuePlaces → FromIfAny t (queuedAt s k)
+    queued-from k h = by (queuedAt s k) refl (queued k h)
+      where
+        by : (x : OptionTime) → queuedAt s k ≡ x → AheadIfAny (s .head .clock) x → FromIfAny t x
+        by None i a = tt
+        by (Some u) i a = picked-le (s .queue) e k i (ahead-known a) (ahead-known picked-ahead)
+
+    -- nor is an own next time
+    own-from : (role : Role) → Real (s .network .senders) role → FromIfAny t (ownTime s role)
+    own-from role r =
+        let k = partOf role in
+        let h = part-inside (s .network .senders) role (few-senders (fit-network (s .network) (b .network))) r in
+        subst (λ (x : Role). FromIfAny t (ownTime s x)) (role-of (s .network .senders) role r)
+        (from-same t (queuedAt s k) (nextTimeOf s k) (q k h .own) (queued-from k h))
+
+    next-same : (k : ℕ) → sameTime (nextTimeOf s k) (nextTimeOf (moved s (next s) t) k) ≡ true
+    next-same k =
+        let s' = moved s (next s) t in
+        role-at (λ (role : Role). sameTime (ownTime s role) (ownTime s' role) ≡ true) (s .network .senders) k
+        (λ role r i. own-same s b t picked-ahead (next s) own-from role r)
+        (unfold ownTime in refl)
+
+    moved-between : Between (next s) (moved s (next s) t)
+    moved-between =
+        let j = next s in
+        let s' = moved s j t in
+        record {
+          body = moved-body s b t picked-ahead j own-from;
+          next = refl;
+          own =
+              same-trans (Some t) (nextTimeOf s j) (nextTimeOf s' j) (subst (λ (x : OptionTime). sameTime x (nextTimeOf s j) ≡ true) there (q j inside .own)) (next-same j);
+          queue = λ k h other.
+              let same : queuedAt s' k ≡ queuedAt s k = ap (λ (x : Queued). x .time) (getD-set-other (s .queue) j k noQueued noQueued other) in
+              record {
+                own =
+                    ap (λ (x : OptionTime). sameTime x (nextTimeOf s' k)) same
+                    ∙ same-trans (queuedAt s k) (nextTimeOf s k) (nextTimeOf s' k) (q k h .own) (next-same k);
+                ahead = ap (heldQueued s') same ∙ ahead-queued s' (queuedAt s k) (ahead-later (s .head .clock) t (queuedAt s k) (queued k h) (queued-from k h));
+              };
+        }
+
+  -- toggler 0 is queued
+  some-queued : 1 ≤ s .network .senders → pickOf (s .queue) .time ≡ None → ⊥
+  unfolding ownTime
+  some-queued some e =
+      let role : roleOf (s .network .senders) 2 ≡ toggler 0 = role-of (s .network .senders) (toggler 0) some in
+      let empty : queuedAt s 2 ≡ None = picked-nothing (s .queue) e 2 in
+      let own : nextTimeOf s 2 ≡ Some (togglerAt s 0 .«next_toggle») = ap (ownTime s) role in
+      false≢true (sym (ap₂ sameTime empty own) ∙ q 2 (omega arith) .own)
+
+-- where a part is next there is a sender: the link is next only for a packet, which one sent
+some-sent : (s : Simulation) → Body s → sameTime (Some (s .head .clock)) (ownTime s link) ≡ true → 1 ≤ s .network .senders
+unfolding ownTime nextTick nextTransmit nextDeliver
+some-sent s b = by (eqb (s .line .waiting .count) 0) (eqb (s .line .«on_line» .count) 0) refl refl
+  where
+    by : (y z : Bool) → eqb (s .line .waiting .count) 0 ≡ y → eqb (s .line .«on_line» .count) 0 ≡ z
+        → sameTime (Some (s .head .clock)) (earliestOptOf (cond y None (Some (latestOf (s .head .clock) (s .line .«earliest_transmit»)))) (cond z None (Some (frontOf s .due)))) ≡ true
+        → 1 ≤ s .network .senders
+    by true true e f h = absurd (false≢true h)
+    by true false e f h =
+        let some : s .line .«on_line» .count ≡ 0 → ⊥ = eqb-false (s .line .«on_line» .count) 0 f in
+        let own : frontOf s .packet .sender < s .network .senders = front-ok s b (omega arith) .packet .own in
+        omega arith
+    by false z e f h =
+        let some : s .line .waiting .count ≡ 0 → ⊥ = eqb-false (s .line .waiting .count) 0 e in
+        let Ok : Packet → Type 0 = PacketOk (s .network .senders) (sentOf s) (s .head .clock) in
+        let ok = subst (All Ok) (items-pop (b .line .waits) noPacket (omega arith)) (b .line .waiting-ok) in
+        let own : firstOf s .sender < s .network .senders = ok .0 .own in
+        omega arith
+
+pub some-senders : (j : ℕ) (s : Simulation) → Between j s → 1 ≤ s .network .senders
+some-senders j s w =
+    role-at (λ (role : Role). sameTime (Some (s .head .clock)) (ownTime s role) ≡ true → 1 ≤ s .network .senders) (s .network .senders) j at
+    (unfold ownTime in λ h. absurd (false≢true h))
+    (w .own)
+  where
+    at : (role : Role) → Real (s .network .senders) role → j ≡ partOf role → sameTime (Some (s .head .clock)) (ownTime s role) ≡ true → 1 ≤ s .network .senders
+    at link r e h = some-sent s (w .body) h
+    at (sender i) r e h = omega arith
+    at (toggler i) r e h = omega arith
+    at nobody r e h = absurd r
+
+pub picked-between : (s : Simulation) → Body s → QueueOk s → 1 ≤ s .network .senders → Between (pickOf (s .queue) .part) (picked s)
+unfolding picked
+picked-between s b q some = by (p .time) refl
+  where
+    p : Picked
+    p = pickOf (s .queue)
+
+    by : (x : OptionTime) → p .time ≡ x → Between (p .part) (withHead (withQueue s (removed (s .queue) p x)) (headOf p x))
+    by None e = absurd (some-queued s b q some e)
+    by (Some t) e = moved-between s b q t e

@@ -1,0 +1,82 @@
+-- Every tick keeps a steady state, every build gives one, and so every state that is reached from a build is fit: stop 9 is never met there. Assumes nothing.
+use mathlib.Core.Path.{_≡_, refl, sym, ap, subst, _∙_}
+use mathlib.Core.Bool.{Bool, true, false, _&&_, cond}
+use mathlib.Core.List.{List, [], _∷_}
+use Prim.Native.Nat.{ℕ}
+use lib.Dec.{T}
+use lib.Ieee.{lt, le}
+use Rattle.quantities.specs.Doubles.{power}
+use Rattle.remy.specs.declared.network.RemyNetwork.{RemyNetwork}
+use Rattle.remy.specs.declared.simulation.Next.{Next}
+use Rattle.remy.specs.declared.simulation.Next.the-variants as Next
+use Rattle.remy.specs.declared.simulation.Simulation.{Simulation}
+use Rattle.remy.specs.declared.simulation.Built.{Built}
+use Rattle.remy.specs.declared.simulation.Ticked.{Ticked}
+use Rattle.remy.specs.declared.simulation.TickRecord.{TickRecord}
+use Rattle.remy.specs.State.{roleOf, onLineItems}
+use Rattle.remy.specs.Fit.{every, fit}
+use Rattle.remy.specs.Build.{buildOf}
+use Rattle.remy.specs.Tick.{Outcome, moves, stops, outcomeOf, unmoved, ticked, tickNext, tickOf}
+use Rattle.remy.specs.History.{Call, tick, called, after, Fresh}
+use Rattle.remy.proofs.Facts.{both-l, both-i, fit-state}
+use Rattle.remy.proofs.Front.{clock-bounded}
+use Rattle.remy.proofs.Steps.{cond-elim}
+use Rattle.remy.proofs.Outcomes.{OnMoves}
+use Rattle.remy.proofs.Fresh.{fresh-fit}
+use Rattle.steady.specs.Steady.{dueSoon, steady, Full}
+use Rattle.steady.proofs.Facts.{Between}
+use Rattle.steady.proofs.Open.{opened}
+use Rattle.steady.proofs.Close.{closed}
+use Rattle.steady.proofs.Full.{built-new}
+use Rattle.steady.proofs.Turns.{Landed, LandedBy, turn-lands}
+
+pub record Steady (s : Simulation) : Type 0 where
+  pub test : steady s ≡ true
+  pub full : Full s
+
+steady-fit : (s : Simulation) → steady s ≡ true → fit s ≡ true
+unfolding steady
+steady-fit s e = both-l (fit s) (every (dueSoon s) (onLineItems s)) e
+
+-- ---- every tick
+
+landed : (s : Simulation) → Landed s → Steady s
+landed s l = record { test = closed s (l .part) (l .between); full = l .between .body .full }
+
+on-outcome : (s : Simulation) → Steady s → (o : Outcome) → OnMoves LandedBy o → Steady (ticked s o .simulation)
+on-outcome s k (moves r m) l = landed m l
+on-outcome s k (stops n) l = k
+
+pub tick-steady : (s : Simulation) → Steady s → Steady (tickOf s .simulation)
+unfolding tickOf
+tick-steady s k =
+    cond-elim (λ (t : Ticked). Steady (t .simulation)) (fit s) (tickNext s (s .head .next)) (unmoved s 9) (λ e. with-next (s .head .next) refl) (λ e. k)
+  where
+    with-next : (x : Next) → s .head .next ≡ x → Steady (tickNext s x .simulation)
+    with-next Next.None e = k
+    with-next (Next.Part j) e =
+        cond-elim (λ (t : Ticked). Steady (t .simulation)) (lt (power 40) (s .head .clock .0 .0)) (unmoved s 10) (ticked s (outcomeOf s (roleOf (s .network .senders) j)))
+        (λ late. k)
+        (λ early. on-outcome s k (outcomeOf s (roleOf (s .network .senders) j))
+        (turn-lands s j (opened s j (k .test) (k .full) e) (clock-bounded s (fit-state s (steady-fit s (k .test))) early)))
+
+-- ---- every state reached from a build
+
+-- nothing is on the line of a built simulation
+built-steady : (n : RemyNetwork) (seed : ℕ) → Steady (buildOf n seed .simulation)
+unfolding steady
+built-steady n seed =
+    let s = buildOf n seed .simulation in
+    let k = built-new n seed in
+    record { test = both-i (fit s) (every (dueSoon s) (onLineItems s)) (fresh-fit n seed) (ap (every (dueSoon s)) (k .none)); full = k .full }
+
+after-steady : (cs : List Call) (s : Simulation) → Steady s → Steady (after cs s)
+after-steady [] s k = k
+after-steady (tick ∷ cs) s k = after-steady cs (tickOf s .simulation) (tick-steady s k)
+
+pub reached-steady : (n : RemyNetwork) (s : Simulation) → Fresh n s → (cs : List Call) → Steady (after cs s)
+reached-steady n s f cs = after-steady cs s (subst (λ (b : Built). Steady (b .simulation)) (f .1) (built-steady n (f .0)))
+
+-- Every state that is reached from a build is fit.
+pub reached-fit : (n : RemyNetwork) (s : Simulation) → Fresh n s → (cs : List Call) → fit (after cs s) ≡ true
+reached-fit n s f cs = steady-fit (after cs s) (reached-steady n s f cs .test)
