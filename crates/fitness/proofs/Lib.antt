@@ -4,3 +4,4 @@ pub mod Bounds
 pub mod Members
 pub mod Clauses
 pub mod Groups
+pub mod Kept

@@ -1,49 +1,59 @@
+-- The invariant: the test of the transits from the i-th on is the test of all. The measure is what is left. Assumes nothing.
+use Prim.Native.Nat.{_-_, _≤_}
+use mathlib.Core.Path.{_≡_, ap, _∙_}
+use native.Mathlib.Omega.{arith}
+use borrow.Author.Needs.{needs}
+use lib.Ieee.{le}
+use Rattle.components.specs.Ring.{itemsFrom}
+use Rattle.remy.specs.State.{noTransit}
+use Rattle.remy.specs.Fit.{every}
+use Rattle.fitness.specs.Tests.{soonTest}
+use Rattle.fitness.proofs.Turns.{rest, rest-all, every-goes, every-stops, every-done}
 use Rattle.fitness.proofs.soon.due_soon.Statement.{statement}
 use Rattle.fitness.proofs.soon.due_soon.Tie as tie
-use Rattle.fitness.proofs.soon.due_soon.Reads as reads
-use Rattle.fitness.proofs.soon.due_soon.Lts as lts
 
 abbrev Inv-loop : tie.InvT-loop
-Inv-loop latest on-line start count i₀ i = ?
+Inv-loop latest on-line start count i₀ i =
+    (i ≤ count) × (every (λ x. le (x .due .0 .0) (latest .0 .0)) (rest noTransit on-line start count i) ≡ every (λ x. le (x .due .0 .0) (latest .0 .0)) (itemsFrom noTransit on-line start count))
 
 abbrev μ-loop : tie.MeasureT-loop
-μ-loop latest on-line start count i₀ i = ?
+μ-loop latest on-line start count i₀ i = count - i
 
--- src/soon.rt:37:5
 loop-holds : tie.Need-loop-holds Inv-loop μ-loop
-loop-holds c = ?
+loop-holds c =
+    (omega arith, ap (every (λ x. le (x .due .0 .0) (c .args .latest .0 .0))) (rest-all noTransit (c .args .t1) (c .args .ring .start) (c .args .ring .count)))
 
--- src/soon.rt:38:32
 add-transit : tie.Need-add-transit Inv-loop μ-loop
-add-transit c = ?
+add-transit c = search needs
 
--- src/soon.rt:38:23
 mul-transit : tie.Need-mul-transit Inv-loop μ-loop
-mul-transit c = ?
+mul-transit c = search needs
 
--- src/soon.rt:38:23
 array-copy-out-transit : tie.Need-array-copy-out-transit Inv-loop μ-loop
-array-copy-out-transit c = ?
+array-copy-out-transit c = search needs
 
--- src/soon.rt:41:13
 add-i : tie.Need-add-i Inv-loop μ-loop
-add-i c = ?
+add-i c = search needs
 
--- src/soon.rt:37:5
 loop-less : tie.Need-loop-less Inv-loop μ-loop
-loop-less c = ?
+loop-less c = search needs
 
--- src/soon.rt:37:5
 loop-again : tie.Need-loop-again Inv-loop μ-loop
-loop-again c = ?
+loop-again c =
+    let L = c .before .before .before .before .before .before .loop in (
+      omega (arith, c .before .before .before .before .before .loop-test .taken),
+      every-goes _ noTransit _ _ _ (L .i) (c .before .before .before .before .before .loop-test .taken) (c .if1 .taken) ∙ L .inv .1,
+    )
 
--- src/soon.rt:43:13
 returns : tie.Need-returns Inv-loop μ-loop
-returns c = ?
+unfolding soonTest
+returns c =
+    let L = c .before .before .before .before .before .before .loop in
+    every-stops _ noTransit _ _ _ (L .i) (c .before .before .before .before .before .loop-test .taken) (c .if1 .left) ∙ L .inv .1
 
--- src/soon.rt:30:1
 returns-2 : tie.Need-returns-2 Inv-loop μ-loop
-returns-2 c = ?
+unfolding soonTest
+returns-2 c = every-done _ noTransit _ _ _ (c .before .loop .i) (c .loop-test .left) ∙ c .before .loop .inv .1
 
 pub due-soon-spec : {M : Type 1} → statement M
 due-soon-spec =

@@ -1,31 +1,30 @@
+-- The fit test, then the test of the due times. Assumes nothing.
 use borrow.Author.Needs.{needs}
+use Rattle.fitness.proofs.Kept.{not-steady, moving-bounds, steady-is}
 use Rattle.fitness.proofs.soon.is_steady.Statement.{statement}
 use Rattle.fitness.proofs.soon.is_steady.Tie as tie
-use Rattle.fitness.proofs.soon.is_steady.Reads as reads
-use Rattle.fitness.proofs.soon.is_steady.Lts as lts
-use Rattle.fitness.proofs.soon.due_soon.Reads as due-soon-reads
-use Rattle.fitness.proofs.whole.is_fit.Reads as is-fit-reads
-use Rattle.quantities.proofs.time.Time.add.Reads as add-reads
 
--- src/soon.rt:17:9
 is-fit-requires : tie.Need-is-fit-requires
 is-fit-requires c κs = search needs
 
--- src/soon.rt:18:9
 returns : tie.Need-returns
-returns c = ?
+returns c =
+    let F = c .before .is-fit in
+    not-steady (c .before .before .args .simulation) (F .result) (F .ensures) (c .if1 .taken)
 
--- src/soon.rt:23:9
 add-requires : tie.Need-add-requires
 add-requires c κs = search needs
 
--- src/soon.rt:24:5
 due-soon-requires : tie.Need-due-soon-requires
-due-soon-requires c κs = ?
+due-soon-requires c κs =
+    let F = c .before .before .before .before .before .is-fit in
+    moving-bounds (c .before .before .before .before .before .before .args .simulation) (F .result) (F .ensures) (c .before .before .before .before .if1 .left)
 
--- src/soon.rt:14:1
 returns-2 : tie.Need-returns-2
-returns-2 c = ?
+returns-2 c =
+    let F = c .before .before .before .before .before .before .is-fit in
+    steady-is (c .before .before .before .before .before .before .before .args .simulation) (F .result) (F .ensures) (c .before .before .before .before .before .if1 .left)
+    (c .before .add .result) (c .before .add .ensures) (c .due-soon .result) (c .due-soon .ensures)
 
 pub is-steady-spec : {M : Type 1} → statement M
 is-steady-spec =
