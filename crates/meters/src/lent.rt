@@ -1,0 +1,52 @@
+ghost use mathlib.Core.Path.{_≡_};
+ghost use Rattle.meters.specs.Meter.{switchedOf, receivedOf};
+use crate::meter::AverageFlowMeter;
+use crate::meter::Metered;
+use crate::meter::Reception;
+use quantities::Time;
+
+// The meter's two changes over a lent meter. Each answers the number; the meter is changed at 0,
+// else as it was.
+
+// Switches the meter on or off at a time.
+pub fn switch(meter: &mut AverageFlowMeter, on: bool, time: Time) -> u32
+    ensures { λ r. ⌜ (r ≡ switchedOf (now (meter .entry)) on time .number) × (now (meter .exit) ≡ switchedOf (now (meter .entry)) on time .meter) ⌝ }
+{
+    let was = *meter;
+    let answer = was.switch(on, time);
+    *meter = answer.meter;
+    answer.number
+}
+
+// Counts a packet at a time.
+pub fn record(meter: &mut AverageFlowMeter, packet: Reception, time: Time) -> u32
+    ensures { λ r. ⌜ (r ≡ receivedOf (now (meter .entry)) packet time .number) × (now (meter .exit) ≡ receivedOf (now (meter .entry)) packet time .meter) ⌝ }
+{
+    let was = *meter;
+    let answer = was.recorded(packet, time);
+    *meter = answer.meter;
+    answer.number
+}
+
+// The same changes of a meter by value, which is lent.
+pub fn switch_of(meter: AverageFlowMeter, on: bool, time: Time) -> Metered
+    ensures { λ r. ⌜ r ≡ switchedOf meter on time ⌝ }
+{
+    let mut lent = meter;
+    let number = switch(&mut lent, on, time);
+    Metered {
+        number,
+        meter: lent,
+    }
+}
+
+pub fn record_of(meter: AverageFlowMeter, packet: Reception, time: Time) -> Metered
+    ensures { λ r. ⌜ r ≡ receivedOf meter packet time ⌝ }
+{
+    let mut lent = meter;
+    let number = record(&mut lent, packet, time);
+    Metered {
+        number,
+        meter: lent,
+    }
+}
