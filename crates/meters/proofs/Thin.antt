@@ -24,7 +24,7 @@ use denote.Memory.{pointee, mem}
 use denote.Plain.{uint-makes}
 use denote.Builtin.{u32}
 use denote.Ref.{RefT, MutRef, now, ptr-vals, mut-tells}
-use denote.Signature.{Signature, plain, mutRefTo}
+use denote.Signature.{plain, mutRefTo}
 use denote.Steps.{opens, closes, owned, peeks, heard, nothing, only}
 use denote.Struct.Steps.{spelt}
 use denote.Struct.Laws as LL

@@ -1,5 +1,14 @@
+ghost use mathlib.Core.Bool.{cond};
 ghost use mathlib.Core.Path.{_≡_};
+ghost use Prim.Native.Nat.{_≤_};
+ghost use lib.Dec.{leb};
+ghost use lib.ListN.{take};
+ghost use Rattle.meters.specs.Average.{averageOf, toldMean};
+ghost use Rattle.meters.specs.Sums.{refusal};
 ghost use Rattle.meters.specs.Meter.{switchedOf, receivedOf};
+use crate::average::FlowSum;
+use crate::average::Mean;
+use crate::flow::FlowProperties;
 use crate::meter::AverageFlowMeter;
 use crate::meter::Metered;
 use crate::meter::Reception;
@@ -49,4 +58,36 @@ pub fn record_of(meter: AverageFlowMeter, packet: Reception, time: Time) -> Mete
         number,
         meter: lent,
     }
+}
+
+// The mean of a lent list of flow records.
+pub fn average(list: &[FlowProperties]) -> Mean
+    ensures { λ r. ⌜ toldMean r ≡ averageOf (now (list .entry)) ⌝ }
+{
+    let count = list.len();
+    let mut sum = FlowSum::start();
+    let mut i = 0;
+    while i < count {
+        sum = sum.added(list[i]);
+        i += 1;
+    }
+    sum.mean()
+}
+
+// The mean of the first so many of 64 flow records by value; refused where there are not so many.
+pub fn average_of(list: [FlowProperties; 64], count: usize) -> Mean
+    ensures { λ r. ⌜ toldMean r ≡ cond (leb count 64) (averageOf (take count list)) (refusal 17) ⌝ }
+{
+    if count > 64 {
+        return Mean::Refused;
+    }
+    average_first(list, count)
+}
+
+// The records are lent.
+fn average_first(list: [FlowProperties; 64], count: usize) -> Mean
+    requires { ⌜ count ≤ 64 ⌝ }
+    ensures { λ r. ⌜ toldMean r ≡ averageOf (take count list) ⌝ }
+{
+    average(&list[..count])
 }
