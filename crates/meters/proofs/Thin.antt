@@ -11,6 +11,7 @@ use base.Logic.{SProp, ent, sep, emp, via, fst∗, snd∗, exE, id⊢}
 use base.Fml.{GName, Lft, Share, ftrue, fat, flft, fobs, fbor}
 use prog.Wp.{Heap, Calls, Loops, WpFn, Tables}
 use ghost.Atoms.{Atoms, sem}
+use contract.Lifetimes.{Lfts}
 use contract.Monad.{fact}
 use types.Kit.{Given, ‵, raw, _⊛_, some, later, _$_, _∵_, !, qed, by, move, keep, drop, use1, split, join, pick, rewrite, fsplit, fsplit3, fjoin, fjoin3, feqI, suffices, frame, await, done}
 use types.Run.{look, look-raw, store-raw, init, forget, stop, hop, fld, from, load, of-opd, and-then, no-more, assigns, land, returns, enter, alloc1, alloc0, params1, pass1, pass0, free1, free0}
@@ -30,9 +31,10 @@ use denote.Struct.Steps.{spelt}
 use denote.Struct.Laws as LL
 use denote.Triple.Statement.{Contract, Triple}
 use denote.Triple.Call.{calls-at}
-use denote.Triple.Clauses.{Clauses, Ended, closing, ensured, lasts}
-use denote.Triple.Entry.{onEntry}
+use denote.Triple.Clauses.{Clauses, Ended, Lasts, AtExit, atExit, closing, ensured, lasts}
+use denote.Triple.Entry.{Args, onEntry}
 use denote.Triple.Spec.{Meets, tripleOf}
+use denote.Triple.Weaken.{weaken}
 use denote.Triple.Walked.{says, Stays, stay-ref, stay-none, walkOf, AllGo, goes-none, goes-ref, Walks, ends-at, walked, walk-meets}
 use Rattle.meters.specs.declared.meter.AverageFlowMeter.{AverageFlowMeter}
 use Rattle.meters.specs.declared.meter.Metered.{Metered}
@@ -164,5 +166,12 @@ module _ (P Q : Data) (def : AverageFlowMeter → P .Denot → Q .Denot → Mete
     goes : AllGo 𝓤 H A W 1 (lent .signature .params) (lent .kept) stayed
     goes = (goes-ref 𝓤 H A W 1 0 tt (plain (λ _. T.the-row)), (goes-none 𝓤 H A W 1 (λ _. rowOf P) yes (λ κs x f. refl), (goes-none 𝓤 H A W 1 (λ _. rowOf Q) yes (λ κs x f. refl), tt)))
 
-    pub thin-meets : (𝓣 : Tables 𝓤 H) → Triple 𝓤 (𝓣 .C g) (ByValue 𝓤 H A) → Meets 𝓤 H A (lent .signature) (WpFn 𝓤 H (𝓣 .C) (𝓣 .Λ) (thin P Q g)) (closing 𝓤 H A lent (lent-clauses 𝓤))
-    thin-meets 𝓣 known = walk-meets 𝓤 H A lent stayed W goes (lent-clauses 𝓤) (WpFn 𝓤 H (𝓣 .C) (𝓣 .Λ) (thin P Q g)) (WpFn-mono 𝓤 H (W .laws) 𝓣 (thin P Q g)) (walks (𝓣 .C) (𝓣 .Λ) (fmOf 𝓤 H (W .laws) 𝓣) known)
+    -- what the function's own contract says follows from the answer
+    module _ (Says : (κs : Lfts 1) (a : Args (lent .signature) κs) → Unit {0} → ℕ → AtExit lent κs → SProp 𝓤)
+        (says-so : (κs : Lfts 1) (a : Args (lent .signature) κs) (n : ℕ) (ws : Lasts lent κs a)
+        → ent 𝓤 (fact 𝓤 ((n ≡ def (now (a .0)) (a .1 .0) (a .1 .1 .0) .number) × (ws .0 ≡ def (now (a .0)) (a .1 .0) (a .1 .1 .0) .meter))) (Says κs a tt n (atExit lent κs a ws))) where
+      pub thin-meets : (𝓣 : Tables 𝓤 H) → Triple 𝓤 (𝓣 .C g) (ByValue 𝓤 H A)
+          → Meets 𝓤 H A (lent .signature) (WpFn 𝓤 H (𝓣 .C) (𝓣 .Λ) (thin P Q g)) (closing 𝓤 H A lent (λ κs a. record { ghost = Unit {0}; requires = λ _. emp 𝓤; ensures = Says κs a }))
+      thin-meets 𝓣 known =
+          weaken 𝓤 H A lent W (lent-clauses 𝓤) Says (λ κs a _ n ws. says-so κs a n ws) (WpFn 𝓤 H (𝓣 .C) (𝓣 .Λ) (thin P Q g)) (WpFn-mono 𝓤 H (W .laws) 𝓣 (thin P Q g))
+          (walk-meets 𝓤 H A lent stayed W goes (lent-clauses 𝓤) (WpFn 𝓤 H (𝓣 .C) (𝓣 .Λ) (thin P Q g)) (WpFn-mono 𝓤 H (W .laws) 𝓣 (thin P Q g)) (walks (𝓣 .C) (𝓣 .Λ) (fmOf 𝓤 H (W .laws) 𝓣) known))

@@ -20,7 +20,8 @@ pub struct AverageFlowMeter {
     pub rtt_sum: TimeSpan,
 }
 
-// A packet that was received: its bits, and its round-trip time.
+// A packet that was received: its bits, and its round-trip time. One value, so that a record has two
+// parameters beside the meter, as a switch has, and one walk proves both over a lent meter.
 pub struct Reception {
     pub data: Information,
     pub rtt: TimeSpan,

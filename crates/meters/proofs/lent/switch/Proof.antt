@@ -1,4 +1,5 @@
 -- The walk that is shared, at a bool, a time and the method `switch`. Assumes nothing.
+use base.Logic.{id⊢}
 use contract.Running.{givenOf, tables, tablesOf}
 use denote.Triple.Spec.{tripleOf}
 use denote.Triple.Table.{entered, cited}
@@ -17,5 +18,6 @@ unfolding code.routine tablesOf
 switch-spec 𝓤 H 𝓜 𝓖 𝓡 =
     entered 𝓤 H (tripleOf 𝓤 H (𝓖 .A) f.signature (f.spec 𝓤 H (𝓖 .A) (𝓜 .mem) (𝓡 .run)))
     (tables 𝓤 H 𝓜 𝓡 code.env .C) (tables 𝓤 H 𝓜 𝓡 code.env .Λ) key.name code.function (code.unfolded 𝓤 H 𝓜 𝓡)
-    (thin-meets truth time switchedOf 𝓤 H (𝓖 .A) (givenOf 𝓤 H 𝓜 𝓖) method.name (tablesOf 𝓤 H 𝓜 (tables 𝓤 H 𝓜 𝓡 code.env))
+    (thin-meets truth time switchedOf 𝓤 H (𝓖 .A) (givenOf 𝓤 H 𝓜 𝓖) method.name (λ κs a g. f.clauses 𝓤 H (𝓖 .A) (𝓜 .mem) (𝓡 .run) κs a .ensures g) (λ κs a n ws. id⊢ 𝓤 _)
+    (tablesOf 𝓤 H 𝓜 (tables 𝓤 H 𝓜 𝓡 code.env))
     (cited 𝓤 H (ByValue truth time switchedOf 𝓤 H (𝓖 .A)) 𝓜 𝓡 code.env method.name method.routine code.calls-meters·meter·AverageFlowMeter·switch (known.met 𝓤 H 𝓜 𝓖 𝓡)))
