@@ -9,6 +9,7 @@ pub use average::FlowSum;
 pub use average::Mean;
 pub use flow::FlowProperties;
 pub use flow::Rtt;
+pub use lent::average_of;
 pub use lent::record;
 pub use lent::record_of;
 pub use lent::switch;
