@@ -44,7 +44,7 @@ use Rattle.meters.proofs.meter.Metered as S
 use Rattle.meters.proofs.meter.Metered.Laws as S′
 use Rattle.meters.proofs.Plain.{Data, rowOf, data-makes}
 
--- the machine values of a meter and of an answer
+-- a meter's machine value
 abbrev pub mach : AverageFlowMeter → Val
 mach h = LL.val T.the-type T′.the-laws h
 

@@ -84,7 +84,7 @@ pub fn average_of(list: [FlowProperties; 64], count: usize) -> Mean
     average_first(list, count)
 }
 
-// The records are lent.
+// The same where there are so many: these are lent.
 fn average_first(list: [FlowProperties; 64], count: usize) -> Mean
     requires { ⌜ count ≤ 64 ⌝ }
     ensures { λ r. ⌜ toldMean r ≡ averageOf (take count list) ⌝ }
