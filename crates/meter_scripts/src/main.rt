@@ -12,14 +12,19 @@
 //     M                                   the mean of the list, which is then empty
 //
 // E, D and R answer their letter, the number and the meter after it; Q and M their letter, the
-// number and, at 0, the rate and the RTT.
+// number and, at 0, the rate and the RTT. E, D and R, and M of a list of at most 64, are carried out
+// twice, by value and over what is lent; a line "differs" follows where the two are not the same.
 use meters::AverageFlowMeter;
 use meters::FlowProperties;
 use meters::FlowRead;
 use meters::FlowSum;
 use meters::Mean;
 use meters::Metered;
+use meters::Reception;
 use meters::Rtt;
+use meters::average_of;
+use meters::record_of;
+use meters::switch_of;
 use quantities::Information;
 use quantities::InformationRate;
 use quantities::OptionTime;
@@ -29,10 +34,13 @@ use quantities::float::from_bits;
 use quantities::float::to_bits;
 ghost use Prim.Native.Nat.{_<_};
 
-// The meter and the sums that the commands work on.
+// The meter, the sums and the list that the commands work on. The list has the first 64 flows; a
+// count of 65 is more than these.
 struct Bench {
     meter: AverageFlowMeter,
     sum: FlowSum,
+    list: [FlowProperties; 64],
+    count: usize,
 }
 
 fn main() {
@@ -42,9 +50,15 @@ fn main() {
 }
 
 fn run(text: &[u8]) {
+    let flow = FlowProperties {
+        throughput: InformationRate(0.0),
+        rtt: Rtt::NoPacketsAcked,
+    };
     let mut bench = Bench {
         meter: AverageFlowMeter::new_disabled(),
         sum: FlowSum::start(),
+        list: [flow; 64],
+        count: 0,
     };
     let mut at = 0;
     while at < text.len() {
@@ -56,62 +70,74 @@ fn run(text: &[u8]) {
 // Carries out the command whose line begins at a place.
 fn command(text: &[u8], at: usize, bench: Bench) -> Bench {
     let meter = bench.meter;
-    let sum = bench.sum;
     let letter = byte_at(text, at);
     match letter {
-        b'N' => Bench {
-            meter: AverageFlowMeter::new_disabled(),
-            sum,
-        },
-        b'H' => Bench {
-            meter: made_by_hand(text, at),
-            sum,
-        },
-        b'E' => {
-            let answer = meter.switch(true, Time(TimeSpan(double(text, at, 0))));
-            Bench {
-                meter: told(b"E ", answer),
-                sum,
-            }
-        }
-        b'D' => {
-            let answer = meter.switch(false, Time(TimeSpan(double(text, at, 0))));
-            Bench {
-                meter: told(b"D ", answer),
-                sum,
-            }
-        }
+        b'N' => with_meter(bench, AverageFlowMeter::new_disabled()),
+        b'H' => with_meter(bench, made_by_hand(text, at)),
+        b'E' => with_meter(bench, switched(b"E ", meter, true, time_at(text, at, 0))),
+        b'D' => with_meter(bench, switched(b"D ", meter, false, time_at(text, at, 0))),
         b'R' => {
-            let bits = Information(number(text, at, 0));
-            let rtt = TimeSpan(double(text, at, 1));
-            let time = Time(TimeSpan(double(text, at, 2)));
-            let answer = meter.packet_received(bits, rtt, time);
-            Bench {
-                meter: told(b"R ", answer),
-                sum,
-            }
+            let packet = Reception {
+                data: Information(number(text, at, 0)),
+                rtt: TimeSpan(double(text, at, 1)),
+            };
+            with_meter(bench, recorded(meter, packet, time_at(text, at, 2)))
         }
         b'Q' => {
-            read(meter, Time(TimeSpan(double(text, at, 0))));
+            read(meter, time_at(text, at, 0));
             bench
         }
-        b'F' => Bench {
-            meter,
-            sum: sum.added(flow_at(text, at)),
-        },
-        b'G' => Bench {
-            meter,
-            sum: repeated(sum, flow_at(text, at), number(text, at, 2)),
-        },
+        b'F' => with_flow(bench, flow_at(text, at)),
+        b'G' => repeated(bench, flow_at(text, at), number(text, at, 2)),
         b'M' => {
-            mean(sum);
-            Bench {
-                meter,
-                sum: FlowSum::start(),
-            }
+            mean(bench);
+            emptied(bench)
         }
         _ => bench,
     }
+}
+
+fn with_meter(bench: Bench, meter: AverageFlowMeter) -> Bench {
+    let mut out = bench;
+    out.meter = meter;
+    out
+}
+
+fn with_flow(bench: Bench, flow: FlowProperties) -> Bench {
+    let mut out = bench;
+    let count = bench.count;
+    let sum = bench.sum.added(flow);
+    out.sum = sum;
+    if count < 64 {
+        out.list[count] = flow;
+        out.count = count + 1;
+    } else {
+        out.count = 65;
+    }
+    out
+}
+
+fn emptied(bench: Bench) -> Bench {
+    let mut out = bench;
+    let sum = FlowSum::start();
+    out.sum = sum;
+    out.count = 0;
+    out
+}
+
+// Each prints the answer, and gives the meter after it.
+fn switched(letter: &[u8], meter: AverageFlowMeter, on: bool, time: Time) -> AverageFlowMeter {
+    told(letter, switch_of(meter, on, time), meter.switch(on, time))
+}
+
+fn recorded(meter: AverageFlowMeter, packet: Reception, time: Time) -> AverageFlowMeter {
+    let data = packet.data;
+    let rtt = packet.rtt;
+    told(
+        b"R ",
+        record_of(meter, packet, time),
+        meter.packet_received(data, rtt, time),
+    )
 }
 
 fn made_by_hand(text: &[u8], at: usize) -> AverageFlowMeter {
@@ -139,12 +165,12 @@ fn flow_at(text: &[u8], at: usize) -> FlowProperties {
     }
 }
 
-// The sums with a flow added so many times.
-fn repeated(sum: FlowSum, flow: FlowProperties, count: u64) -> FlowSum {
-    let mut all = sum;
+// The list with a flow added so many times.
+fn repeated(bench: Bench, flow: FlowProperties, count: u64) -> Bench {
+    let mut all = bench;
     let mut i: u64 = 0;
     while i < count {
-        all = all.added(flow);
+        all = with_flow(all, flow);
         i += 1;
     }
     all
@@ -158,8 +184,8 @@ fn rtt_at(text: &[u8], at: usize) -> Rtt {
     }
 }
 
-// Prints the answer of a switch or a record, and gives the meter after it.
-fn told(letter: &[u8], answer: Metered) -> AverageFlowMeter {
+// Prints the answer of a switch or a record over a lent meter, and gives the meter after it.
+fn told(letter: &[u8], answer: Metered, by_value: Metered) -> AverageFlowMeter {
     let meter = answer.meter;
     io::write_all(1, letter);
     io::print_decimal(1, answer.number as u64);
@@ -173,6 +199,8 @@ fn told(letter: &[u8], answer: Metered) -> AverageFlowMeter {
     print_word(meter.records as u64);
     print_double(meter.rtt_sum.0);
     end_line();
+    let same = answer.number == by_value.number && same_meter(meter, by_value.meter);
+    compared(same);
     meter
 }
 
@@ -185,12 +213,93 @@ fn read(meter: AverageFlowMeter, time: Time) {
     }
 }
 
-fn mean(sum: FlowSum) {
+fn mean(bench: Bench) {
+    let by_value = bench.sum.mean();
+    let list = bench.list;
+    let count = bench.count;
+    if count > 64 {
+        print_mean(by_value);
+        return;
+    }
+    let answer = average_of(list, count);
+    print_mean(answer);
+    compared(same_mean(answer, by_value));
+}
+
+fn print_mean(mean: Mean) {
     io::write_all(1, b"M ");
-    match sum.mean() {
+    match mean {
         Mean::Average(flow) => print_flow(flow),
         Mean::Refused => print_refusal(17),
     }
+}
+
+fn compared(same: bool) {
+    if !same {
+        io::write_all(1, b"differs\n");
+    }
+}
+
+fn same_meter(a: AverageFlowMeter, b: AverageFlowMeter) -> bool {
+    if a.total.0 != b.total.0 {
+        return false;
+    }
+    if a.records != b.records {
+        return false;
+    }
+    if !same_double(a.total_time.0, b.total_time.0) {
+        return false;
+    }
+    if !same_double(a.rtt_sum.0, b.rtt_sum.0) {
+        return false;
+    }
+    let start = a.current_start;
+    let other = b.current_start;
+    match start {
+        OptionTime::None => match other {
+            OptionTime::None => true,
+            OptionTime::Some(_) => false,
+        },
+        OptionTime::Some(time) => match other {
+            OptionTime::None => false,
+            OptionTime::Some(at) => same_double(time.0.0, at.0.0),
+        },
+    }
+}
+
+fn same_mean(a: Mean, b: Mean) -> bool {
+    match a {
+        Mean::Refused => match b {
+            Mean::Refused => true,
+            Mean::Average(_) => false,
+        },
+        Mean::Average(flow) => match b {
+            Mean::Refused => false,
+            Mean::Average(other) => same_flow(flow, other),
+        },
+    }
+}
+
+fn same_flow(a: FlowProperties, b: FlowProperties) -> bool {
+    if !same_double(a.throughput.0, b.throughput.0) {
+        return false;
+    }
+    let rtt = a.rtt;
+    let other = b.rtt;
+    match rtt {
+        Rtt::NoPacketsAcked => match other {
+            Rtt::NoPacketsAcked => true,
+            Rtt::Known(_) => false,
+        },
+        Rtt::Known(span) => match other {
+            Rtt::NoPacketsAcked => false,
+            Rtt::Known(value) => same_double(span.0, value.0),
+        },
+    }
+}
+
+fn same_double(x: f64, y: f64) -> bool {
+    to_bits(x) == to_bits(y)
 }
 
 fn print_flow(flow: FlowProperties) {
@@ -238,6 +347,10 @@ fn field(at: usize, k: usize) -> usize {
 
 fn absent(text: &[u8], at: usize, k: usize) -> bool {
     byte_at(text, field(at, k)) == b'-'
+}
+
+fn time_at(text: &[u8], at: usize, k: usize) -> Time {
+    Time(TimeSpan(double(text, at, k)))
 }
 
 fn double(text: &[u8], at: usize, k: usize) -> f64 {

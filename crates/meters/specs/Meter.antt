@@ -13,6 +13,7 @@ use Rattle.quantities.specs.Units.{spanOf, amountOf, asDouble, since, spanSum, 
 use Rattle.meters.specs.declared.flow.FlowProperties.{FlowProperties}
 use Rattle.meters.specs.declared.meter.AverageFlowMeter.{AverageFlowMeter}
 use Rattle.meters.specs.declared.meter.Metered.{Metered}
+use Rattle.meters.specs.declared.meter.Reception.{Reception}
 use Rattle.meters.specs.declared.meter.FlowRead.{FlowRead}
 use Rattle.meters.specs.declared.meter.FlowRead.the-variants.{Properties, NeverActive, Refused}
 use Rattle.meters.specs.Sums.{summedOf, averageRtt, FlowAnswer, refusal}
@@ -99,6 +100,10 @@ unfoldable pub recordedOf : AverageFlowMeter → Information → TimeSpan → Ti
 recordedOf m bits rtt t =
     let fine = ready m t && inRange zeroF (power 41) (rtt .0) && leb 1 (bits .0) && leb (bits .0) 16777216 && ltb (m .records) 16777216 in
     cond fine (taken (countedOf m bits rtt)) (unchanged m)
+
+-- the same of a packet's bits and RTT
+abbrev pub receivedOf : AverageFlowMeter → Reception → Time → Metered
+receivedOf m p t = recordedOf m (p .«data») (p .rtt) t
 
 -- the enabled time so far
 unfoldable pub enabledTime : AverageFlowMeter → Time → TimeSpan

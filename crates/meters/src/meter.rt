@@ -1,5 +1,5 @@
 ghost use mathlib.Core.Path.{_≡_};
-ghost use Rattle.meters.specs.Meter.{newMeter, startFit, meterFit, ready, enabledTime, switchedOf, recordedOf, readOf, toldRead};
+ghost use Rattle.meters.specs.Meter.{newMeter, startFit, meterFit, ready, enabledTime, switchedOf, recordedOf, receivedOf, readOf, toldRead};
 use crate::average::average_rtt;
 use crate::average::summed;
 use crate::flow::FlowProperties;
@@ -18,6 +18,13 @@ pub struct AverageFlowMeter {
     pub total: Information,
     pub records: u32,
     pub rtt_sum: TimeSpan,
+}
+
+// A packet that was received: its bits, and its round-trip time. One value, so that a record has two
+// parameters beside the meter, as a switch has, and one walk proves both over a lent meter.
+pub struct Reception {
+    pub data: Information,
+    pub rtt: TimeSpan,
 }
 
 // A number of document 01 (0 or 18), and the meter: changed at 0, else as it was.
@@ -151,6 +158,15 @@ impl AverageFlowMeter {
             rtt_sum,
         };
         Metered { number: 0, meter }
+    }
+
+    // Counts a packet at a time.
+    pub fn recorded(self, packet: Reception, time: Time) -> Metered
+        ensures { λ r. ⌜ r ≡ receivedOf self packet time ⌝ }
+    {
+        let data = packet.data;
+        let rtt = packet.rtt;
+        self.packet_received(data, rtt, time)
     }
 
     // The flow so far, read at a time.

@@ -165,7 +165,7 @@ pub fn advance(simulation: Simulation, n: u32) -> Advanced
                 let sender = st.senders[i];
                 let meter = st.meters[i];
                 let switched = turns::switched(policy, toggled.enabled, sender, clock);
-                let m = meter.switch(toggled.enabled, clock);
+                let m = meters::switch_of(meter, toggled.enabled, clock);
                 let metered = m.meter;
                 st.togglers[i] = toggled;
                 st.senders[i] = switched;

@@ -23,6 +23,8 @@ use components::SenderState;
 use components::Toggler;
 use components::Transit;
 use meters::AverageFlowMeter;
+use meters::Reception;
+use meters::record_of;
 use quantities::Information;
 use quantities::InformationRate;
 use quantities::OptionTime;
@@ -221,7 +223,8 @@ pub fn hear(
                 },
                 Heard::Counted => {
                     let rtt = clock.sub(p.sent_time);
-                    let m = meter.packet_received(Information(network.bits), rtt, clock);
+                    let data = Information(network.bits);
+                    let m = record_of(meter, Reception { data, rtt }, clock);
                     let meter = m.meter;
                     Hearing {
                         heard: true,

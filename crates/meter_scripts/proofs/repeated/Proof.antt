@@ -13,8 +13,8 @@ abbrev μ-loop : tie.MeasureT-loop
 loop-holds : tie.Need-loop-holds Inv-loop μ-loop
 loop-holds c = search needs
 
-added-requires : tie.Need-added-requires Inv-loop μ-loop
-added-requires c κs = search needs
+with-flow-requires : tie.Need-with-flow-requires Inv-loop μ-loop
+with-flow-requires c κs = search needs
 
 add-i : tie.Need-add-i Inv-loop μ-loop
 add-i c = search needs
@@ -31,4 +31,4 @@ returns c = search needs
 pub repeated-spec : {M : Type 1} → statement M
 repeated-spec =
     tie.close
-    (tie.spec Inv-loop μ-loop loop-holds added-requires add-i loop-less loop-again returns)
+    (tie.spec Inv-loop μ-loop loop-holds with-flow-requires add-i loop-less loop-again returns)

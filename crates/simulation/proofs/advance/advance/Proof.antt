@@ -753,8 +753,8 @@ element-copy-out-meter-2 c =
 switched-requires : tie.Need-switched-requires Inv-loop μ-loop
 switched-requires c κs = search needs
 
-switch-requires : tie.Need-switch-requires Inv-loop μ-loop
-switch-requires c κs = search needs
+switch-of-requires : tie.Need-switch-of-requires Inv-loop μ-loop
+switch-of-requires c κs = search needs
 
 mul-toggled : tie.Need-mul-toggled Inv-loop μ-loop
 mul-toggled c =
@@ -1019,7 +1019,7 @@ loop-again-3 c =
     let at-loop = at-loop-test .before in
     let turn = toggler-turn (at-loop .loop .st) (at-is-fit .is-fit .result) (at-is-fit .is-fit .ensures) (at-whose-turn .whose-turn .result) (at-whose-turn .whose-turn .ensures) _ (at-now3 .now3 .given .1) in
     let l = at-loop .loop in
-    (omega (arith, at-loop-test .loop-test .taken), l .inv .1, thrice (l .st .queue) (l .inv .2) _ _ _ _ _ _, goes-on _ _ _ (l .st) (at-loop-test .loop-test .taken) _ _ (toggler-stored (at-loop .loop .st) _ turn (at-toggle .toggle .result) (at-toggle .toggle .ensures) (at-if4 .if4 .left) (at-switched .switched .result) (at-switched .switched .ensures) (at-switch .switch .result) (at-switch .switch .ensures) (at-toggler-slot .toggler-slot .result) (at-toggler-slot .toggler-slot .ensures) (at-sender-slot3 .sender-slot3 .result) (at-sender-slot3 .sender-slot3 .ensures) (at-pick3 .pick3 .result) (at-pick3 .pick3 .ensures) (at-place-after3 .place-after3 .result) (at-place-after3 .place-after3 .ensures) (at-head-of3 .head-of3 .result) (at-head-of3 .head-of3 .ensures) (c .toggler-note .result) (c .toggler-note .ensures)) ∙ l .inv .3)
+    (omega (arith, at-loop-test .loop-test .taken), l .inv .1, thrice (l .st .queue) (l .inv .2) _ _ _ _ _ _, goes-on _ _ _ (l .st) (at-loop-test .loop-test .taken) _ _ (toggler-stored (at-loop .loop .st) _ turn (at-toggle .toggle .result) (at-toggle .toggle .ensures) (at-if4 .if4 .left) (at-switched .switched .result) (at-switched .switched .ensures) (at-switch .switch-of .result) (at-switch .switch-of .ensures) (at-toggler-slot .toggler-slot .result) (at-toggler-slot .toggler-slot .ensures) (at-sender-slot3 .sender-slot3 .result) (at-sender-slot3 .sender-slot3 .ensures) (at-pick3 .pick3 .result) (at-pick3 .pick3 .ensures) (at-place-after3 .place-after3 .result) (at-place-after3 .place-after3 .ensures) (at-head-of3 .head-of3 .result) (at-head-of3 .head-of3 .ensures) (c .toggler-note .result) (c .toggler-note .ensures)) ∙ l .inv .3)
 
 returns-6 : tie.Need-returns-6 Inv-loop μ-loop
 returns-6 c =
@@ -1139,7 +1139,7 @@ advance-spec =
     mul-meter-2
     element-copy-out-meter-2
     switched-requires
-    switch-requires
+    switch-of-requires
     mul-toggled
     element-set-from-toggled
     mul-switched

@@ -1,0 +1,93 @@
+ghost use mathlib.Core.Bool.{cond};
+ghost use mathlib.Core.Path.{_≡_};
+ghost use Prim.Native.Nat.{_≤_};
+ghost use lib.Dec.{leb};
+ghost use lib.ListN.{take};
+ghost use Rattle.meters.specs.Average.{averageOf, toldMean};
+ghost use Rattle.meters.specs.Sums.{refusal};
+ghost use Rattle.meters.specs.Meter.{switchedOf, receivedOf};
+use crate::average::FlowSum;
+use crate::average::Mean;
+use crate::flow::FlowProperties;
+use crate::meter::AverageFlowMeter;
+use crate::meter::Metered;
+use crate::meter::Reception;
+use quantities::Time;
+
+// The meter's two changes over a lent meter. Each answers the number; the meter is changed at 0,
+// else as it was.
+
+// Switches the meter on or off at a time.
+pub fn switch(meter: &mut AverageFlowMeter, on: bool, time: Time) -> u32
+    ensures { λ r. ⌜ (r ≡ switchedOf (now (meter .entry)) on time .number) × (now (meter .exit) ≡ switchedOf (now (meter .entry)) on time .meter) ⌝ }
+{
+    let was = *meter;
+    let answer = was.switch(on, time);
+    *meter = answer.meter;
+    answer.number
+}
+
+// Counts a packet at a time.
+pub fn record(meter: &mut AverageFlowMeter, packet: Reception, time: Time) -> u32
+    ensures { λ r. ⌜ (r ≡ receivedOf (now (meter .entry)) packet time .number) × (now (meter .exit) ≡ receivedOf (now (meter .entry)) packet time .meter) ⌝ }
+{
+    let was = *meter;
+    let answer = was.recorded(packet, time);
+    *meter = answer.meter;
+    answer.number
+}
+
+// The same changes of a meter by value, which is lent.
+pub fn switch_of(meter: AverageFlowMeter, on: bool, time: Time) -> Metered
+    ensures { λ r. ⌜ r ≡ switchedOf meter on time ⌝ }
+{
+    let mut lent = meter;
+    let number = switch(&mut lent, on, time);
+    Metered {
+        number,
+        meter: lent,
+    }
+}
+
+pub fn record_of(meter: AverageFlowMeter, packet: Reception, time: Time) -> Metered
+    ensures { λ r. ⌜ r ≡ receivedOf meter packet time ⌝ }
+{
+    let mut lent = meter;
+    let number = record(&mut lent, packet, time);
+    Metered {
+        number,
+        meter: lent,
+    }
+}
+
+// The mean of a lent list of flow records.
+pub fn average(list: &[FlowProperties]) -> Mean
+    ensures { λ r. ⌜ toldMean r ≡ averageOf (now (list .entry)) ⌝ }
+{
+    let count = list.len();
+    let mut sum = FlowSum::start();
+    let mut i = 0;
+    while i < count {
+        sum = sum.added(list[i]);
+        i += 1;
+    }
+    sum.mean()
+}
+
+// The mean of the first so many of 64 flow records by value; refused where there are not so many.
+pub fn average_of(list: [FlowProperties; 64], count: usize) -> Mean
+    ensures { λ r. ⌜ toldMean r ≡ cond (leb count 64) (averageOf (take count list)) (refusal 17) ⌝ }
+{
+    if count > 64 {
+        return Mean::Refused;
+    }
+    average_first(list, count)
+}
+
+// The same where there are so many: these are lent.
+fn average_first(list: [FlowProperties; 64], count: usize) -> Mean
+    requires { ⌜ count ≤ 64 ⌝ }
+    ensures { λ r. ⌜ toldMean r ≡ averageOf (take count list) ⌝ }
+{
+    average(&list[..count])
+}
