@@ -36,6 +36,7 @@ use Rattle.remy.proofs.Facts.{both-l, both-r, FitState, fit-state}
 use Rattle.remy.proofs.Networks.{few-senders, few-bits}
 use Rattle.remy.proofs.Front.{accepted, front-sender}
 use Rattle.remy.proofs.Fresh.{role-elim}
+use Rattle.steady.proofs.Steady.{Steady, tick-steady}
 use Rattle.turns.specs.declared.Now.{Now}
 use Rattle.turns.specs.declared.Now.the-variants as Now
 use Rattle.turns.specs.declared.LinkActed.{LinkActed}
@@ -83,6 +84,11 @@ module _ (n d : ℕ) (r : TickRecord) (s : Simulation) where
   pub goes-on : d < n → (x : TickRecord) (m : Simulation) → tickOf s ≡ ticked s (moves x m) → advanceOf (n - (d + 1)) (d + 1) x m ≡ advanceOf (n - d) d r s
   unfolding advanceOf
   goes-on h x m e = let one : n - d ≡ suc (n - (d + 1)) = omega (arith, h) in rw (one, e)
+
+  -- a steady state stays so
+  pub goes-steady : d < n → (x : TickRecord) (m : Simulation) → tickOf s ≡ ticked s (moves x m) → (all : Advanced) (b : Bool) → (advanceOf (n - d) d r s ≡ all) × (b ≡ true → Steady s)
+      → (advanceOf (n - (d + 1)) (d + 1) x m ≡ all) × (b ≡ true → Steady m)
+  goes-steady h x m e all b k = (goes-on h x m e ∙ k .0, λ t. subst (λ (y : Ticked). Steady (y .simulation)) e (tick-steady s (k .1 t)))
 
   pub stops-there : d < n → (k : ℕ) → tickOf s ≡ unmoved s k → record { done = d; number = k; note = emptyRecord; simulation = s } ≡ advanceOf (n - d) d r s
   unfolding advanceOf

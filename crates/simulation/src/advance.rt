@@ -19,11 +19,12 @@ pub struct Advanced {
 pub fn advance(simulation: Simulation, n: u32) -> Advanced
     ensures { λ r. ⌜ r ≡ advanceOf n 0 emptyRecord simulation ⌝ }
 {
+    let steady = fitness::is_steady(simulation);
     let mut st = simulation;
     let mut done = 0;
     let mut note = turns::empty_record();
     while done < n {
-        let fit = fitness::is_fit(st);
+        let fit = if steady { true } else { fitness::is_fit(st) };
         let network = st.network;
         let head = st.head;
         let line = st.line;

@@ -69,27 +69,33 @@ picked-new s k = by (pickOf (s .queue)) (pickOf (s .queue) .time)
 
 queued-new : (n : RemyNetwork) (g : Rng) (p : Parts) → FullParts p → New (queuedAll (unqueued n g p))
 unfolding queuedAll
-queued-new n g p k = record { none = refl; full =
-    record {
-      waiting = same-length blankPacket 512;
-      moving = same-length blankTransit 512;
-      senders = k .senders;
-      togglers = k .togglers;
-      meters = same-length newMeter 16;
-      queue = own-length (unqueued n g p) queuePlaces 0;
-    } }
+queued-new n g p k = record {
+  none = refl;
+  full =
+      record {
+        waiting = same-length blankPacket 512;
+        moving = same-length blankTransit 512;
+        senders = k .senders;
+        togglers = k .togglers;
+        meters = same-length newMeter 16;
+        queue = own-length (unqueued n g p) queuePlaces 0;
+      };
+}
 
 empty-new : New emptySimulation
 unfolding emptySimulation
-empty-new = record { none = refl; full =
-    record {
-      waiting = same-length blankPacket 512;
-      moving = same-length blankTransit 512;
-      senders = same-length (newSender zeroWords) 16;
-      togglers = same-length blankToggler 16;
-      meters = same-length newMeter 16;
-      queue = same-length noQueued queuePlaces;
-    } }
+empty-new = record {
+  none = refl;
+  full =
+      record {
+        waiting = same-length blankPacket 512;
+        moving = same-length blankTransit 512;
+        senders = same-length (newSender zeroWords) 16;
+        togglers = same-length blankToggler 16;
+        meters = same-length newMeter 16;
+        queue = same-length noQueued queuePlaces;
+      };
+}
 
 pub built-new : (n : RemyNetwork) (seed : ℕ) → New (buildOf n seed .simulation)
 unfolding buildOf

@@ -34,7 +34,7 @@ pub record Steady (s : Simulation) : Type 0 where
   pub test : steady s ≡ true
   pub full : Full s
 
-steady-fit : (s : Simulation) → steady s ≡ true → fit s ≡ true
+pub steady-fit : (s : Simulation) → steady s ≡ true → fit s ≡ true
 unfolding steady
 steady-fit s e = both-l (fit s) (every (dueSoon s) (onLineItems s)) e
 
