@@ -97,14 +97,29 @@ fn put_hex(out: &mut [u8], at: usize, key: &[u8], v: u64) -> usize
 }
 
 // A word and a whole number.
+fn put_whole(out: &mut [u8], at: usize, key: &[u8], n: u64) -> usize
+    requires { ⌜ at + (length (now key) + length (decimalOf n)) ≤ length (now out) ⌝ }
+    ensures { λ r. ⌜ Wrote (length (now (key .entry)) + length (decimalOf n)) (now (key .entry) ++ decimalOf n) (now (out .entry)) at r (now (out .exit)) ⌝ }
+{
+    let next = put_word(out, at, key);
+    let k = decimal_digits(n);
+    put_digits(out, next, 10, k, n)
+}
+
+// A word and a number of 32 bits.
 fn put_decimal(out: &mut [u8], at: usize, key: &[u8], n: u32) -> usize
     requires { ⌜ at + (length (now key) + 10) ≤ length (now out) ⌝ }
     ensures { λ r. ⌜ Wrote (length (now (key .entry)) + 10) (now (key .entry) ++ decimalOf n) (now (out .entry)) at r (now (out .exit)) ⌝ }
 {
-    let next = put_word(out, at, key);
-    let v = n as u64;
-    let k = decimal_digits(v);
-    put_digits(out, next, 10, k, v)
+    put_whole(out, at, key, n as u64)
+}
+
+// A word and a part's number.
+fn put_part(out: &mut [u8], at: usize, key: &[u8], n: usize) -> usize
+    requires { ⌜ at + (length (now key) + 20) ≤ length (now out) ⌝ }
+    ensures { λ r. ⌜ Wrote (length (now (key .entry)) + 20) (now (key .entry) ++ decimalOf n) (now (out .entry)) at r (now (out .exit)) ⌝ }
+{
+    put_whole(out, at, key, n as u64)
 }
 
 // A word and one byte.
@@ -159,7 +174,7 @@ pub fn record_line(
     out: &mut [u8],
     at: usize,
     time: u64,
-    part: u32,
+    part: usize,
     mark: u8,
     packet: Named,
     line: Named,
@@ -168,7 +183,7 @@ pub fn record_line(
 {
     if roomy(out.len(), at) {
         let a = put_hex(out, at, b"time=", time);
-        let b = put_decimal(out, a, b" part=", part);
+        let b = put_part(out, a, b" part=", part);
         let c = put_letter(out, b, b" mark=", mark);
         let d = put_packet(out, c, b" packet=", packet);
         let e = put_packet(out, d, b" line=", line);
