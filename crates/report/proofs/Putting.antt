@@ -23,9 +23,6 @@ isAt Put.Full = false
 -- ---- one line
 
 module _ (l : List ℕ) (ls : List (List ℕ)) (d : List ℕ) (at : ℕ) (r : Put) (after : List ℕ) (p : PutIs l d at r after) where
-  short : Puts
-  short = record { at = at; out = d; rest = l ∷ ls }
-
   -- it was put: the others follow it
   pub put-goes : (next : ℕ) → r ≡ Put.At next → puts ls after next ≡ puts (l ∷ ls) d at
   unfolding puts
@@ -49,25 +46,23 @@ module _ (l : List ℕ) (ls : List (List ℕ)) (d : List ℕ) (at : ℕ) (r : Pu
 -- ---- what a function that fills answers
 
 module _ (rep : Report) (p : Puts) (at : ℕ) (after : List ℕ) where
-  -- lines are left
-  pub filled-short : (l : List ℕ) (ls : List (List ℕ)) → p ≡ record { at = at; out = after; rest = l ∷ ls } → leftOf rep ≡ l ∷ ls
-      → FilledIs p (record { at = at; done = false; report = rep }) after
-  filled-short l ls e f = record {
+  filled-is : (ls : List (List ℕ)) → p ≡ record { at = at; out = after; rest = ls } → leftOf rep ≡ ls → FilledIs p (record { at = at; done = none ls; report = rep }) after
+  filled-is ls e f = record {
     at = sym (ap (λ (x : Puts). x .at) e);
     bytes = sym (ap (λ (x : Puts). x .out) e);
     done = sym (ap (λ (x : Puts). none (x .rest)) e);
     left = f ∙ sym (ap (λ (x : Puts). x .rest) e);
   }
 
+  -- lines are left
+  pub filled-short : (l : List ℕ) (ls : List (List ℕ)) → p ≡ record { at = at; out = after; rest = l ∷ ls } → leftOf rep ≡ l ∷ ls
+      → FilledIs p (record { at = at; done = false; report = rep }) after
+  filled-short l ls e f = filled-is (l ∷ ls) e f
+
   -- none is left
   pub filled-whole : p ≡ record { at = at; out = after; rest = [] } → leftOf rep ≡ []
       → FilledIs p (record { at = at; done = true; report = rep }) after
-  filled-whole e f = record {
-    at = sym (ap (λ (x : Puts). x .at) e);
-    bytes = sym (ap (λ (x : Puts). x .out) e);
-    done = sym (ap (λ (x : Puts). none (x .rest)) e);
-    left = f ∙ sym (ap (λ (x : Puts). x .rest) e);
-  }
+  filled-whole e f = filled-is [] e f
 
 pub filled-as : {p q : Puts} {r : Filled} {after : List ℕ} → p ≡ q → FilledIs p r after → FilledIs q r after
 filled-as {r = r} {after = after} e w = subst (λ (x : Puts). FilledIs x r after) e w
