@@ -1,0 +1,9 @@
+mod Digits
+mod Words
+mod Written
+mod Numbers
+mod Forms
+mod Cases
+mod Whole
+mod Buffer
+mod Examples

@@ -1,0 +1,57 @@
+-- `description::print::put_packet` meets its contract: a word, then the dash or two decimals with a colon between.
+-- Assumes nothing.
+use mathlib.Core.Path.{refl}
+use mathlib.Core.List.{[], _∷_, _++_, append-assoc}
+use native.Mathlib.Omega.{arith}
+use denote.Ref.{now}
+use borrow.Author.Needs.{needs}
+use Rattle.description.specs.Words.{colon}
+use Rattle.description.specs.Text.{decimalOf}
+use Rattle.description.proofs.Buffer.{wrote-then, wrote-as}
+use Rattle.description.proofs.print.put_packet.Statement.{statement}
+use Rattle.description.proofs.print.put_packet.Tie as tie
+
+enum-told : tie.Need-enum-told
+enum-told c = search needs
+
+put-letter-requires : tie.Need-put-letter-requires
+put-letter-requires c κs = search needs
+
+enum-known-packet : tie.Need-enum-known-packet
+enum-known-packet c = search needs
+
+put-decimal-requires : tie.Need-put-decimal-requires
+put-decimal-requires c κs = search needs
+
+slice-aggregate-put-decimal : tie.Need-slice-aggregate-put-decimal
+slice-aggregate-put-decimal c = search needs
+
+put-decimal-requires-2 : tie.Need-put-decimal-requires-2
+put-decimal-requires-2 c κs = search needs
+
+same-length : tie.Need-same-length
+same-length c = search needs
+
+returns : tie.Need-returns
+returns c = rw (c .before .before .before .before .enum-told .given .1) (wrote-as refl (omega arith) (c .before .before .put-letter .ensures))
+
+same-length-2 : tie.Need-same-length-2
+same-length-2 c = search needs
+
+returns-2 : tie.Need-returns-2
+returns-2 c = rw (c .before .before .before .before .before .before .before .before .before .before .packet .given .1) (wrote-as (append-assoc (now (c .before .before .before .before .before .before .before .before .before .before .before .before .before .before .args .key)) (decimalOf (c .before .before .before .before .before .before .before .before .before .before .packet .given .0 .0)) ((colon ∷ []) ++ decimalOf (c .before .before .before .before .before .before .before .before .before .before .packet .given .0 .1 .0))) (omega arith) (wrote-then (c .before .before .before .before .before .before .before .put-decimal .ensures) (c .before .before .put-decimal2 .ensures) (omega (arith, c .before .before .before .before .before .before .before .before .before .before .before .before .before .before .pre))))
+
+pub put-packet-spec : {M : Type 1} → statement M
+put-packet-spec =
+    tie.close
+    (tie.spec
+    enum-told
+    put-letter-requires
+    enum-known-packet
+    put-decimal-requires
+    slice-aggregate-put-decimal
+    put-decimal-requires-2
+    same-length
+    returns
+    same-length-2
+    returns-2)

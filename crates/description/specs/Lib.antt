@@ -1,0 +1,5 @@
+pub mod Words
+pub mod Text
+pub mod Printing
+pub mod Reading
+pub mod Lines

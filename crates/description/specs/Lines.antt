@@ -1,0 +1,154 @@
+-- The lines of a description as forms, and the answers of the functions that read them as outcomes. Definitions only.
+use Prim.Native.Nat.{ℕ, _-_, _^_}
+use mathlib.Core.List.{List}
+use mathlib.Core.Logic.{_⊎_, inl, inr}
+use Rattle.description.specs.Words.{lf, colon, delayKey, rateKey, lossKey, limitKey, bitsKey, sendersKey, onKey, offKey, policyKey, seedKey, ticksKey, noneLine, alwaysKey, uniformKey, heldKey, grownKey, timedKey}
+use Rattle.description.specs.Reading.{Form, Outcome, found, refused, wordForm, hexForm, decimalForm, keyed, pair, either}
+use Rattle.description.specs.declared.Limit.{Limit}
+use Rattle.description.specs.declared.Limit.the-variants as L
+use Rattle.description.specs.declared.Distribution.{Distribution}
+use Rattle.description.specs.declared.Distribution.the-variants.{Always, Uniform}
+use Rattle.description.specs.declared.Policy.{Policy}
+use Rattle.description.specs.declared.Policy.the-variants.{Held, Grown, Timed}
+use Rattle.description.specs.declared.Description.{Description}
+use Rattle.description.specs.declared.lines.Link.{Link}
+use Rattle.description.specs.declared.lines.Load.{Load}
+use Rattle.description.specs.declared.lines.Course.{Course}
+use Rattle.description.specs.declared.lines.Kind.{Kind}
+use Rattle.description.specs.declared.lines.Kind.the-variants as E
+use Rattle.description.specs.declared.lines.Two.{Two}
+use Rattle.description.specs.declared.lines.Two.the-variants as W
+use Rattle.description.specs.declared.lines.LimitAt.{LimitAt}
+use Rattle.description.specs.declared.lines.LimitAt.the-variants as M
+use Rattle.description.specs.declared.lines.DistributionAt.{DistributionAt}
+use Rattle.description.specs.declared.lines.DistributionAt.the-variants as D
+use Rattle.description.specs.declared.lines.PolicyAt.{PolicyAt}
+use Rattle.description.specs.declared.lines.PolicyAt.the-variants as Q
+use Rattle.description.specs.declared.lines.LinkAt.{LinkAt}
+use Rattle.description.specs.declared.lines.LinkAt.the-variants as K
+use Rattle.description.specs.declared.lines.LoadAt.{LoadAt}
+use Rattle.description.specs.declared.lines.LoadAt.the-variants as O
+use Rattle.description.specs.declared.lines.CourseAt.{CourseAt}
+use Rattle.description.specs.declared.lines.CourseAt.the-variants as C
+
+-- the greatest number of 64 and of 32 bits
+abbrev pub most64 : ℕ
+most64 = 2 ^ 64 - 1
+
+abbrev pub most32 : ℕ
+most32 = 2 ^ 32 - 1
+
+-- a number of a kind and what ends it; a key and two numbers
+abbrev pub kindForm : Kind → ℕ → Form ℕ
+kindForm E.Double end = hexForm end
+kindForm (E.Whole most) end = decimalForm most end
+
+abbrev pub twoForm : List ℕ → Kind → Kind → Form (ℕ × ℕ)
+twoForm key first second = pair (keyed key (kindForm first colon)) (kindForm second lf)
+
+-- limit
+abbrev pub limitForm : Form (Unit {0} ⊎ ℕ)
+limitForm = keyed limitKey (either (wordForm noneLine) (decimalForm most64 lf))
+
+abbrev pub limitCase : Limit → Unit {0} ⊎ ℕ
+limitCase L.None = inl tt
+limitCase (L.Bits n) = inr n
+
+-- on and off
+abbrev pub alwaysForm : Form ℕ
+alwaysForm = keyed alwaysKey (hexForm lf)
+
+abbrev pub uniformForm : Form (ℕ × ℕ)
+uniformForm = twoForm uniformKey E.Double E.Double
+
+abbrev pub distributionForm : List ℕ → Form (ℕ ⊎ (ℕ × ℕ))
+distributionForm key = keyed key (either alwaysForm uniformForm)
+
+abbrev pub distributionCase : Distribution → ℕ ⊎ (ℕ × ℕ)
+distributionCase (Always v) = inl v
+distributionCase (Uniform a b) = inr (a, b)
+
+-- policy
+abbrev pub heldForm : Form ℕ
+heldForm = keyed heldKey (decimalForm most32 lf)
+
+abbrev pub grownForm : Form (ℕ × ℕ)
+grownForm = twoForm grownKey (E.Whole most32) (E.Whole most32)
+
+abbrev pub timedForm : Form (ℕ × ℕ)
+timedForm = twoForm timedKey (E.Whole most32) E.Double
+
+abbrev pub policyForm : Form (ℕ ⊎ ((ℕ × ℕ) ⊎ (ℕ × ℕ)))
+policyForm = keyed policyKey (either heldForm (either grownForm timedForm))
+
+abbrev pub policyCase : Policy → ℕ ⊎ ((ℕ × ℕ) ⊎ (ℕ × ℕ))
+policyCase (Held w) = inl w
+policyCase (Grown f m) = inr (inl (f, m))
+policyCase (Timed m h) = inr (inr (m, h))
+
+-- the link's lines, the load's and the run's
+abbrev pub LinkCases : Type 0
+LinkCases = ℕ × (ℕ × (ℕ × (Unit {0} ⊎ ℕ)))
+
+abbrev pub linkForm : Form LinkCases
+linkForm = pair (keyed delayKey (hexForm lf)) (pair (keyed rateKey (hexForm lf)) (pair (keyed lossKey (hexForm lf)) limitForm))
+
+abbrev pub LoadCases : Type 0
+LoadCases = ℕ × (ℕ × ((ℕ ⊎ (ℕ × ℕ)) × (ℕ ⊎ (ℕ × ℕ))))
+
+abbrev pub loadForm : Form LoadCases
+loadForm = pair (keyed bitsKey (decimalForm most64 lf)) (pair (keyed sendersKey (decimalForm most32 lf)) (pair (distributionForm onKey) (distributionForm offKey)))
+
+abbrev pub CourseCases : Type 0
+CourseCases = (ℕ ⊎ ((ℕ × ℕ) ⊎ (ℕ × ℕ))) × (ℕ × ℕ)
+
+abbrev pub courseForm : Form CourseCases
+courseForm = pair policyForm (pair (keyed seedKey (decimalForm most64 lf)) (keyed ticksKey (decimalForm 65536 lf)))
+
+-- the answers as outcomes
+abbrev pub twofold : Two → Outcome (ℕ × ℕ)
+twofold (W.At a b next) = found (a, b) next
+twofold W.Refused = refused
+
+abbrev pub limited : LimitAt → Outcome (Unit {0} ⊎ ℕ)
+limited (M.At v next) = found (limitCase v) next
+limited M.Refused = refused
+
+abbrev pub distributed : DistributionAt → Outcome (ℕ ⊎ (ℕ × ℕ))
+distributed (D.At v next) = found (distributionCase v) next
+distributed D.Refused = refused
+
+abbrev pub governed : PolicyAt → Outcome (ℕ ⊎ ((ℕ × ℕ) ⊎ (ℕ × ℕ)))
+governed (Q.At v next) = found (policyCase v) next
+governed Q.Refused = refused
+
+abbrev pub linked : LinkAt → Outcome LinkCases
+linked (K.At v next) = found (v .delay, (v .rate, (v .loss, limitCase (v .limit)))) next
+linked K.Refused = refused
+
+abbrev pub loaded : LoadAt → Outcome LoadCases
+loaded (O.At v next) = found (v .bits, (v .senders, (distributionCase (v .on), distributionCase (v .off)))) next
+loaded O.Refused = refused
+
+abbrev pub coursed : CourseAt → Outcome CourseCases
+coursed (C.At v next) = found (policyCase (v .policy), (v .seed, v .ticks)) next
+coursed C.Refused = refused
+
+-- the whole description
+abbrev pub wholeForm : Form (LinkCases × (LoadCases × CourseCases))
+wholeForm = pair linkForm (pair loadForm courseForm)
+
+abbrev pub gatheredOf : Link → Load → Course → Description
+gatheredOf k o c = record {
+  delay = k .delay;
+  rate = k .rate;
+  loss = k .loss;
+  limit = k .limit;
+  bits = o .bits;
+  senders = o .senders;
+  on = o .on;
+  off = o .off;
+  policy = c .policy;
+  seed = c .seed;
+  ticks = c .ticks;
+}

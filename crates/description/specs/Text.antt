@@ -1,0 +1,117 @@
+-- The text of a description (document 01, "The text program"). Definitions only.
+-- A text is the list of its bytes.
+use Prim.Native.Nat.{ℕ, zero, suc, _+_, _/_, _%_, _^_, _≤_, _<_}
+use mathlib.Core.Bool.{cond}
+use mathlib.Core.List.{List, [], _∷_, _++_}
+use mathlib.Core.Path.{_≡_}
+use lib.Dec.{ltb}
+use Rattle.description.specs.Words.{lf, colon, delayKey, rateKey, lossKey, limitKey, bitsKey, sendersKey, onKey, offKey, policyKey, seedKey, ticksKey, noneLine, alwaysKey, uniformKey, heldKey, grownKey, timedKey}
+use Rattle.description.specs.declared.Limit.{Limit}
+use Rattle.description.specs.declared.Limit.the-variants as L
+use Rattle.description.specs.declared.Distribution.{Distribution}
+use Rattle.description.specs.declared.Distribution.the-variants.{Always, Uniform}
+use Rattle.description.specs.declared.Policy.{Policy}
+use Rattle.description.specs.declared.Policy.the-variants.{Held, Grown, Timed}
+use Rattle.description.specs.declared.Description.{Description}
+use Rattle.description.specs.declared.ReadDescription.{ReadDescription}
+use Rattle.description.specs.declared.ReadDescription.the-variants.{Given, Malformed}
+
+-- a digit: `0` to `9`, then `a` to `f`
+unfoldable pub digitByte : ℕ → ℕ
+digitByte d = cond (ltb d 10) (48 + d) (87 + d)
+
+-- the last k digits of n to the base b, the highest first
+unfoldable pub digitsOf : ℕ → ℕ → ℕ → List ℕ
+digitsOf b zero n = []
+digitsOf b (suc k) n = digitsOf b k (n / b) ++ (digitByte (n % b) ∷ [])
+
+-- a double: the 16 lower-case hexadecimal digits of its bits
+unfoldable pub hexOf : ℕ → List ℕ
+hexOf n = digitsOf 16 16 n
+
+-- n in decimal, by at most k divisions: below 10 it is one digit, else the decimal of n / 10 and the last digit
+unfoldable pub decimalWithin : ℕ → ℕ → List ℕ
+decimalWithin zero n = digitByte n ∷ []
+decimalWithin (suc k) n =
+    let more = decimalWithin k (n / 10) ++ (digitByte (n % 10) ∷ []) in
+    cond (ltb n 10) (digitByte n ∷ []) more
+
+-- a whole number: decimal without leading zeros. n needs no more than n divisions to come below 10
+unfoldable pub decimalOf : ℕ → List ℕ
+decimalOf n = decimalWithin n n
+
+-- a line's text from its key: the key, the double or whole number, and what ends it
+abbrev pub double : List ℕ → ℕ → ℕ → List ℕ
+double key v end = key ++ (hexOf v ++ (end ∷ []))
+
+abbrev pub whole : List ℕ → ℕ → ℕ → List ℕ
+whole key v end = key ++ (decimalOf v ++ (end ∷ []))
+
+-- limit: `none` or bits
+abbrev pub limitOf : Limit → List ℕ
+limitOf L.None = noneLine
+limitOf (L.Bits n) = decimalOf n ++ (lf ∷ [])
+
+-- on and off: `always:h`, `uniform:h:h`
+abbrev pub distributionOf : Distribution → List ℕ
+distributionOf (Always v) = double alwaysKey v lf
+distributionOf (Uniform a b) = double uniformKey a colon ++ (hexOf b ++ (lf ∷ []))
+
+-- policy: `held:w`, `grown:f:m`, `timed:m:h`
+abbrev pub policyOf : Policy → List ℕ
+policyOf (Held w) = whole heldKey w lf
+policyOf (Grown f m) = whole grownKey f colon ++ (decimalOf m ++ (lf ∷ []))
+policyOf (Timed m h) = whole timedKey m colon ++ (hexOf h ++ (lf ∷ []))
+
+-- the eleven lines, in this order
+unfoldable pub textOf : Description → List ℕ
+textOf d =
+    double delayKey (d .delay) lf
+    ++ double rateKey (d .rate) lf
+    ++ double lossKey (d .loss) lf
+    ++ (limitKey ++ limitOf (d .limit))
+    ++ whole bitsKey (d .bits) lf
+    ++ whole sendersKey (d .senders) lf
+    ++ (onKey ++ distributionOf (d .on))
+    ++ (offKey ++ distributionOf (d .off))
+    ++ (policyKey ++ policyOf (d .policy))
+    ++ whole seedKey (d .seed) lf
+    ++ whole ticksKey (d .ticks) lf
+
+-- doubles, limit, bits and seed have 64 bits, other whole numbers 32; ticks are at most 65,536
+abbrev pub limitInWidth : Limit → Type 0
+limitInWidth L.None = Unit
+limitInWidth (L.Bits n) = n < 2 ^ 64
+
+abbrev pub distributionInWidth : Distribution → Type 0
+distributionInWidth (Always v) = v < 2 ^ 64
+distributionInWidth (Uniform a b) = (a < 2 ^ 64) × (b < 2 ^ 64)
+
+abbrev pub policyInWidth : Policy → Type 0
+policyInWidth (Held w) = w < 2 ^ 32
+policyInWidth (Grown f m) = (f < 2 ^ 32) × (m < 2 ^ 32)
+policyInWidth (Timed m h) = (m < 2 ^ 32) × (h < 2 ^ 64)
+
+pub record InWidth (d : Description) : Type 0 where
+  pub delay : d .delay < 2 ^ 64
+  pub rate : d .rate < 2 ^ 64
+  pub loss : d .loss < 2 ^ 64
+  pub limit : limitInWidth (d .limit)
+  pub bits : d .bits < 2 ^ 64
+  pub senders : d .senders < 2 ^ 32
+  pub on : distributionInWidth (d .on)
+  pub off : distributionInWidth (d .off)
+  pub policy : policyInWidth (d .policy)
+  pub seed : d .seed < 2 ^ 64
+  pub ticks : d .ticks ≤ 65536
+
+-- document 01's number for each answer (table of stops)
+unfoldable pub numberOf : ReadDescription → ℕ
+numberOf (Given d) = 0
+numberOf Malformed = 15
+
+-- what is given is what the text says, every text of a description in its widths is given, and anything else is 15
+pub record ReadIs (text : List ℕ) (r : ReadDescription) : Type 0 where
+  pub sound : (d : Description) → r ≡ Given d → (text ≡ textOf d) × InWidth d
+  pub complete : (d : Description) → text ≡ textOf d → InWidth d → r ≡ Given d
+  pub other : ((d : Description) → text ≡ textOf d → InWidth d → ⊥) → numberOf r ≡ 15

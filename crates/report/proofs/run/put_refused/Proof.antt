@@ -1,0 +1,42 @@
+-- One line, put or left. Assumes nothing.
+use mathlib.Core.Path.{refl, sym, _∙_}
+use Rattle.report.specs.Report.{leftOf}
+use Rattle.report.proofs.Putting.{put-goes, put-stays, puts-none, filled-short, filled-whole}
+use borrow.Author.Needs.{needs}
+use Rattle.report.proofs.run.put_refused.Statement.{statement}
+use Rattle.report.proofs.run.put_refused.Tie as tie
+
+refused-line-requires : tie.Need-refused-line-requires
+refused-line-requires c κs = search needs
+
+enum-known-at : tie.Need-enum-known-at
+enum-known-at c = search needs
+
+enum-told : tie.Need-enum-told
+enum-told c = search needs
+
+same-length : tie.Need-same-length
+same-length c = search needs
+
+returns : tie.Need-returns
+unfolding leftOf
+returns c = filled-whole _ _ _ _ (sym (put-goes _ _ _ _ _ _ (c .before .before .before .before .before .refused-line .ensures) _ (c .before .at .given .1)) ∙ puts-none _ _) refl
+
+same-length-2 : tie.Need-same-length-2
+same-length-2 c = search needs
+
+returns-2 : tie.Need-returns-2
+unfolding leftOf
+returns-2 c = filled-short _ _ _ _ _ _ (put-stays _ _ _ _ _ _ (c .before .before .before .before .refused-line .ensures) (c .enum-told .given .1)) refl
+
+pub put-refused-spec : {M : Type 1} → statement M
+put-refused-spec =
+    tie.close
+    (tie.spec
+    refused-line-requires
+    enum-known-at
+    enum-told
+    same-length
+    returns
+    same-length-2
+    returns-2)

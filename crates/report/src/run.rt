@@ -1,0 +1,274 @@
+// The report of a text: its lines, put into a lent buffer in one go or part by part.
+ghost use mathlib.Core.Path.{_≡_};
+ghost use mathlib.Core.List.{[], _∷_};
+ghost use Rattle.description.specs.Printing.{refusedOf};
+ghost use Rattle.description.specs.declared.ReadDescription.the-variants.{Given};
+ghost use Rattle.report.specs.Lines.{flowCount, flowsFrom, recordLines, endLines, runLines};
+ghost use Rattle.report.specs.Report.{reportOf, ForText, leftOf, puts, FilledIs, AllPut, RecordsIs};
+use crate::lines::flow_bytes;
+use crate::lines::record_bytes;
+use crate::lines::stop_bytes;
+use crate::network::network_of;
+use description::Description;
+use description::ReadDescription;
+use description::print::Put;
+use description::print::refused_line;
+use remy::Simulation;
+
+// What is printed next: a refusal, the records of so many ticks, the stop line with the last number,
+// the flows from a sender on, or nothing more.
+pub enum Stage {
+    Refused(u32),
+    Ticks(u32),
+    Stop(u32),
+    Flows(u32),
+    Done,
+}
+
+// What is left to print, and the simulation that it is read from.
+pub struct Report {
+    pub stage: Stage,
+    pub simulation: Simulation,
+}
+
+// A buffer filled up to a position, whether nothing is left, and the report of what is left.
+pub struct Filled {
+    pub at: usize,
+    pub done: bool,
+    pub report: Report,
+}
+
+// The report of a description.
+fn begun(description: Description) -> Report
+    ensures { λ r. ⌜ r ≡ reportOf (Given description) ⌝ }
+{
+    let built = builder::build(network_of(description), description.seed);
+    let simulation = built.simulation;
+    if built.number != 0 {
+        return Report {
+            stage: Stage::Refused(built.number),
+            simulation,
+        };
+    }
+    Report {
+        stage: Stage::Ticks(description.ticks),
+        simulation,
+    }
+}
+
+// The report of a text. A text that is no description is 15.
+pub fn report_of(text: &[u8]) -> Report
+    ensures { λ r. ⌜ ForText (now (text .entry)) (λ d. r ≡ reportOf d) ⌝ }
+{
+    match description::read(text) {
+        ReadDescription::Given(d) => begun(d),
+        ReadDescription::Malformed => {
+            let simulation = builder::state::empty_simulation();
+            Report {
+                stage: Stage::Refused(15),
+                simulation,
+            }
+        }
+    }
+}
+
+// The records of n ticks, as many as have room.
+fn put_records(out: &mut [u8], at: usize, simulation: Simulation, n: u32) -> Filled
+    ensures { λ r. ⌜ RecordsIs n simulation (puts (recordLines n simulation) (now (out .entry)) at) r (now (out .exit)) ⌝ }
+{
+    let mut st = simulation;
+    let mut left = n;
+    let mut next = at;
+    while 0 < left {
+        let t = simulation::tick(st);
+        if t.moved {
+            let note = t.note;
+            match record_bytes(out, next, note) {
+                Put::At(after) => {
+                    st = t.simulation;
+                    left -= 1;
+                    next = after;
+                }
+                Put::Full => {
+                    let report = Report {
+                        stage: Stage::Ticks(left),
+                        simulation: st,
+                    };
+                    return Filled {
+                        at: next,
+                        done: false,
+                        report,
+                    };
+                }
+            }
+        } else {
+            let stopped = t.simulation;
+            let report = Report {
+                stage: Stage::Stop(t.number),
+                simulation: stopped,
+            };
+            return Filled {
+                at: next,
+                done: false,
+                report,
+            };
+        }
+    }
+    let report = Report {
+        stage: Stage::Stop(0),
+        simulation: st,
+    };
+    Filled {
+        at: next,
+        done: false,
+        report,
+    }
+}
+
+// How many flows are printed.
+fn flow_count(simulation: Simulation) -> u32
+    ensures { λ r. ⌜ r ≡ flowCount simulation ⌝ }
+{
+    if simulation.network.senders < 16 {
+        return simulation.network.senders;
+    }
+    16
+}
+
+// The flows from a sender on, as many as have room.
+fn put_flows(out: &mut [u8], at: usize, first: u32, simulation: Simulation) -> Filled
+    ensures { λ r. ⌜ FilledIs (puts (flowsFrom simulation first) (now (out .entry)) at) r (now (out .exit)) ⌝ }
+{
+    let n = flow_count(simulation);
+    let clock = simulation::time(simulation);
+    let mut i = first;
+    let mut next = at;
+    while i < n {
+        let k = i as usize;
+        let sender = simulation.senders[k];
+        let meter = simulation.meters[k];
+        match flow_bytes(out, next, i, sender, meter, clock) {
+            Put::At(after) => {
+                i += 1;
+                next = after;
+            }
+            Put::Full => {
+                let report = Report {
+                    stage: Stage::Flows(i),
+                    simulation,
+                };
+                return Filled {
+                    at: next,
+                    done: false,
+                    report,
+                };
+            }
+        }
+    }
+    let report = Report {
+        stage: Stage::Done,
+        simulation,
+    };
+    Filled {
+        at: next,
+        done: true,
+        report,
+    }
+}
+
+// The stop line and the flows, as many as have room.
+fn put_end(out: &mut [u8], at: usize, number: u32, simulation: Simulation) -> Filled
+    ensures { λ r. ⌜ FilledIs (puts (endLines number simulation) (now (out .entry)) at) r (now (out .exit)) ⌝ }
+{
+    match stop_bytes(out, at, number, simulation) {
+        Put::At(next) => put_flows(out, next, 0, simulation),
+        Put::Full => {
+            let report = Report {
+                stage: Stage::Stop(number),
+                simulation,
+            };
+            Filled {
+                at,
+                done: false,
+                report,
+            }
+        }
+    }
+}
+
+// The line of a refusal.
+fn put_refused(out: &mut [u8], number: u32, simulation: Simulation) -> Filled
+    ensures { λ r. ⌜ FilledIs (puts (refusedOf number ∷ []) (now (out .entry)) 0) r (now (out .exit)) ⌝ }
+{
+    match refused_line(out, 0, number) {
+        Put::At(at) => {
+            let report = Report {
+                stage: Stage::Done,
+                simulation,
+            };
+            Filled {
+                at,
+                done: true,
+                report,
+            }
+        }
+        Put::Full => {
+            let report = Report {
+                stage: Stage::Refused(number),
+                simulation,
+            };
+            Filled {
+                at: 0,
+                done: false,
+                report,
+            }
+        }
+    }
+}
+
+// The records of n ticks, then the end, as much as has room.
+fn put_run(out: &mut [u8], n: u32, simulation: Simulation) -> Filled
+    ensures { λ r. ⌜ FilledIs (puts (runLines n simulation) (now (out .entry)) 0) r (now (out .exit)) ⌝ }
+{
+    let f = put_records(out, 0, simulation, n);
+    let report = f.report;
+    let stage = report.stage;
+    match stage {
+        Stage::Stop(number) => {
+            let stopped = report.simulation;
+            put_end(out, f.at, number, stopped)
+        }
+        Stage::Ticks(_) => f,
+        Stage::Refused(_) => f,
+        Stage::Flows(_) => f,
+        Stage::Done => f,
+    }
+}
+
+// The next lines of a report, as many as have room in the buffer, from its start.
+pub fn fill(out: &mut [u8], report: Report) -> Filled
+    ensures { λ r. ⌜ FilledIs (puts (leftOf report) (now (out .entry)) 0) r (now (out .exit)) ⌝ }
+{
+    let stage = report.stage;
+    let simulation = report.simulation;
+    match stage {
+        Stage::Refused(number) => put_refused(out, number, simulation),
+        Stage::Ticks(n) => put_run(out, n, simulation),
+        Stage::Stop(number) => put_end(out, 0, number, simulation),
+        Stage::Flows(i) => put_flows(out, 0, i, simulation),
+        Stage::Done => Filled {
+            at: 0,
+            done: true,
+            report,
+        },
+    }
+}
+
+// All that is printed for a text, put into a buffer: the position after it, or too little room.
+pub fn print_run(text: &[u8], out: &mut [u8]) -> Put
+    ensures { λ r. ⌜ ForText (now (text .entry)) (λ d. AllPut (puts (leftOf (reportOf d)) (now (out .entry)) 0) r (now (out .exit))) ⌝ }
+{
+    let report = report_of(text);
+    let f = fill(out, report);
+    if f.done { Put::At(f.at) } else { Put::Full }
+}
