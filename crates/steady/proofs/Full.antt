@@ -22,11 +22,8 @@ use Rattle.remy.specs.State.{onLineItems, withHead, withQueue}
 use Rattle.remy.specs.Queue.{headOf, removed, picked}
 use Rattle.remy.specs.Build.{newSender, zeroWords, blankPacket, blankTransit, blankToggler, Parts, noParts, populate, unqueued, ownTimes, queuedAll, emptySimulation, notBuilt, buildFrom, buildOf}
 use Rattle.remy.proofs.Steps.{cond-elim}
+use Rattle.remy.proofs.Start.{same-length}
 use Rattle.steady.specs.Steady.{Full}
-
-same-length : {A : Type 0} (x : A) (n : ℕ) → length (replicate n x) ≡ n
-same-length x zero = refl
-same-length x (suc n) = ap suc (same-length x n)
 
 record FullParts (p : Parts) : Type 0 where
   senders : length (p .senders) ≡ 16

@@ -1,6 +1,8 @@
 -- Steady is kept.
 pub mod Facts
 pub mod Lists
+pub mod Roles
+pub mod Ahead
 pub mod Open
 pub mod Close
 pub mod LineSteps

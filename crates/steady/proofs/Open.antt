@@ -30,19 +30,18 @@ use Rattle.remy.specs.declared.simulation.Next.the-variants as Next
 use Rattle.remy.specs.declared.simulation.Simulation.{Simulation}
 use Rattle.remy.specs.Network.{between, networkStop}
 use Rattle.remy.specs.State.{Role, link, sender, toggler, roleOf, senderPart, togglerPart, noTransit, senderAt, togglerAt, meterAt, queuedAt, frontOf, waitingItems, onLineItems, onLinePackets, packetBits, totalBits}
-use Rattle.remy.specs.Queue.{ownTime, nextTimeOf}
+use Rattle.remy.specs.Queue.{ownTime, nextTimeOf, partOf}
 use Rattle.remy.specs.Fit.{every, upTo, eachSender, packetFit, held, heldIfAny, isIdle, heldSender, heldQueued, isNext, sinceStart, startedFit, meterStartFit, countOf, rising, ackFit, heldWindowFit, isTimed, timerFit, senderOn, sameTime, nextFit, networkFit, ringsFit, packetsFit, bitsFit, clockFit, heldTimesFit, pastFit, totalsFit, sumsFit, recordsFit, dueFit, countsFit, windowsFit, timersFit, togglersAgree, metersAgree, meterBitsFit, queueFit, fit}
-use Rattle.remy.proofs.Facts.{both-l, both-r, range-low, range-high, between-low, between-high, upTo-at, FitState, fit-state}
+use Rattle.remy.proofs.Facts.{both-l, both-r, holds, range-low, range-high, between-low, between-high, upTo-at, FitState, fit-state}
 use Rattle.remy.proofs.Networks.{fit-network, few-senders}
 use Rattle.remy.proofs.Steps.{cond-elim}
 use Rattle.steady.specs.Steady.{dueSoon, steady, Full}
 use Rattle.steady.proofs.Facts.{All, NotAfter, Held, Past, PastIfAny, PacketOk, TransitOk, LineOk, TimerIfAny, StateOk, MeterOk, PartOk, sentOf, Body, QueueBut, Between}
-use Rattle.steady.proofs.Lists.{every-all, all-unmapped}
+use Rattle.steady.proofs.Lists.{all-with, every-all, all-unmapped}
+use Rattle.steady.proofs.Roles.{Real, role-of, part-inside}
+use Rattle.steady.proofs.Ahead.{HeldIfAny, FromIfAny, ahead-now, ahead-latest, queued-ahead, from-same, from-right}
 
 -- ---- tests
-
-holds : (b : Bool) → b ≡ true → T b
-holds b e = subst T (sym e) tt
 
 -- the second of two tests passed where the first did not
 or-rest : (a b : Bool) → a ≡ false → (a || b) ≡ true → b ≡ true
@@ -59,53 +58,7 @@ beq-same true false e = sym e
 beq-same false true e = e
 beq-same false false e = refl
 
--- what two facts of each member give
-all-with : {A : Type 0} (P Q R : A → Type 0) → ((x : A) → P x → Q x → R x) → (xs : List A) → All P xs → All Q xs → All R xs
-all-with P Q R f [] a b = tt
-all-with P Q R f (x ∷ xs) a b = (f x (a .0) (b .0), all-with P Q R f xs (a .1) (b .1))
-
--- ---- the role of each part
-
-pub role-sender : (n i : ℕ) → i < n → roleOf n (senderPart i) ≡ sender i
-unfolding roleOf
-role-sender n i h =
-    let half : (1 + 2 * i - 1) / 2 ≡ i = omega arith in
-    let odd : (1 + 2 * i) % 2 ≡ 1 = omega arith in
-    rw (ne-eqb (1 + 2 * i) 0 (omega arith), half, lt-ltb i n h, odd)
-
-pub role-toggler : (n i : ℕ) → i < n → roleOf n (togglerPart i) ≡ toggler i
-unfolding roleOf
-role-toggler n i h =
-    let half : (2 + 2 * i - 1) / 2 ≡ i = omega arith in
-    let even : (2 + 2 * i) % 2 ≡ 0 = omega arith in
-    rw (ne-eqb (2 + 2 * i) 0 (omega arith), half, lt-ltb i n h, even)
-
--- ---- times from the clock on
-
-abbrev AheadIfAny : Time → OptionTime → Type 0
-AheadIfAny clock None = Unit {0}
-AheadIfAny clock (Some t) = NotAfter clock t
-
-abbrev HeldIfAny : OptionTime → Type 0
-HeldIfAny None = Unit {0}
-HeldIfAny (Some t) = Held t
-
-ahead-same : (clock : Time) (x : OptionTime) → sameTime (Some clock) x ≡ true → AheadIfAny clock x
-ahead-same clock None e = tt
-ahead-same clock (Some t) e = eq→le (clock .0 .0) (t .0 .0) (holds _ e)
-
-ahead-queued : (s : Simulation) (q x : OptionTime) → sameTime q x ≡ true → heldQueued s q ≡ true → AheadIfAny (s .head .clock) x
-ahead-queued s q None e h = tt
-ahead-queued s None (Some t) e h = absurd (false≢true e)
-ahead-queued s (Some q) (Some t) e h =
-    le-trans (s .head .clock .0 .0) (q .0 .0) (t .0 .0) (holds _ (both-r (held q) (le (s .head .clock .0 .0) (q .0 .0)) h)) (eq→le (q .0 .0) (t .0 .0) (holds _ e))
-
--- the earlier of two is not after the second
-ahead-second : (clock : Time) (x : OptionTime) (t : Time) → HeldIfAny x → Held t → AheadIfAny clock (earliestOptOf x (Some t)) → NotAfter clock t
-ahead-second clock None t p q a = a
-ahead-second clock (Some u) t p q a =
-    le-trans (clock .0 .0) (earlier (u .0 .0) (t .0 .0)) (t .0 .0) a
-    (earlier-right (u .0 .0) (t .0 .0) (le-known-l (u .0 .0) (power 41) p) (le-known-l (t .0 .0) (power 41) q))
+-- ---- due times from the clock on
 
 -- where the first due time is from the clock on, so are all
 ahead-rising : (clock : Time) (x : Transit) (xs : List Transit) → rising (x ∷ xs) ≡ true → NotAfter clock (x .due) → All (λ y. NotAfter clock (y .due)) (x ∷ xs)
@@ -237,14 +190,18 @@ module _ (s : Simulation) (j : ℕ) (all : steady s ≡ true) (full : Full s) (n
       }
 
   -- no part's own next time is before the clock
-  part-ahead : (k : ℕ) → k < queuePlaces → AheadIfAny (s .head .clock) (nextTimeOf s k)
+  part-ahead : (k : ℕ) → k < queuePlaces → FromIfAny (s .head .clock) (nextTimeOf s k)
   part-ahead k h = elim (ℕ-discrete k j) [
-    | yes same ↦ ahead-same (s .head .clock) (nextTimeOf s k) (subst (λ (i : ℕ). sameTime (Some (s .head .clock)) (nextTimeOf s i) ≡ true) (sym same) own-next)
-    | no other ↦ ahead-queued s (queuedAt s k) (nextTimeOf s k) (others k h other .own) (others k h other .ahead)
+    | yes same ↦
+      from-same (s .head .clock) (Some (s .head .clock)) (nextTimeOf s k) (subst (λ (i : ℕ). sameTime (Some (s .head .clock)) (nextTimeOf s i) ≡ true) (sym same) own-next)
+      (ahead-now (s .head .clock) clock-held .from)
+    | no other ↦ from-same (s .head .clock) (queuedAt s k) (nextTimeOf s k) (others k h other .own) (queued-ahead s (queuedAt s k) (others k h other .ahead) .from)
   ]
 
-  role-ahead : (k : ℕ) (role : Role) → k < queuePlaces → roleOf (s .network .senders) k ≡ role → AheadIfAny (s .head .clock) (ownTime s role)
-  role-ahead k role h e = subst (λ (r : Role). AheadIfAny (s .head .clock) (ownTime s r)) e (part-ahead k h)
+  role-ahead : (role : Role) → Real (s .network .senders) role → FromIfAny (s .head .clock) (ownTime s role)
+  role-ahead role r =
+      subst (λ (x : Role). FromIfAny (s .head .clock) (ownTime s x)) (role-of (s .network .senders) role r)
+      (part-ahead (partOf role) (part-inside (s .network .senders) role few r))
 
   -- ---- the line
 
@@ -277,12 +234,12 @@ module _ (s : Simulation) (j : ℕ) (all : steady s ≡ true) (full : Full s) (n
   unfolding roleOf ownTime nextTick nextTransmit nextDeliver
   front-ahead some h =
       let transmit = nextTransmit (s .line) (s .head .clock) in
-      let a : AheadIfAny (s .head .clock) (earliestOptOf transmit (nextDeliver (s .line) (frontOf s .due))) = role-ahead 0 link (omega arith) refl in
-      let b : AheadIfAny (s .head .clock) (earliestOptOf transmit (Some (frontOf s .due))) =
-      subst (λ (c : Bool). AheadIfAny (s .head .clock) (earliestOptOf transmit (cond c None (Some (frontOf s .due))))) (ne-eqb (s .line .«on_line» .count) 0 (omega arith)) a in
-      ahead-second (s .head .clock) transmit (frontOf s .due)
+      let a : FromIfAny (s .head .clock) (earliestOptOf transmit (nextDeliver (s .line) (frontOf s .due))) = role-ahead link tt in
+      let b : FromIfAny (s .head .clock) (earliestOptOf transmit (Some (frontOf s .due))) =
+      subst (λ (c : Bool). FromIfAny (s .head .clock) (earliestOptOf transmit (cond c None (Some (frontOf s .due))))) (ne-eqb (s .line .«on_line» .count) 0 (omega arith)) a in
+      from-right (s .head .clock) transmit (Some (frontOf s .due))
       (cond-elim HeldIfAny (eqb (s .line .waiting .count) 0) None (Some (latestOf (s .head .clock) (s .line .«earliest_transmit»))) (λ e. tt)
-      (λ e. later-least (s .head .clock .0 .0) (s .line .«earliest_transmit» .0 .0) (power 41) clock-held free-held))
+      (λ e. ahead-latest (s .head .clock) clock-held (s .line .«earliest_transmit») free-held .held))
       h b
 
   dues-held : All (λ x. held (x .due) ≡ true) (onLineItems s)
@@ -357,13 +314,13 @@ module _ (s : Simulation) (j : ℕ) (all : steady s ≡ true) (full : Full s) (n
   start-of (Some t) e = past-of t e
 
   -- a timer that is the second of two times, the earlier of which is from the clock on
-  timer-of : (policy : Policy) (x o : OptionTime) → HeldIfAny x → heldIfAny o ≡ true → (not (isOn o) || isTimed policy) ≡ true → AheadIfAny (s .head .clock) (earliestOptOf x o)
+  timer-of : (policy : Policy) (x o : OptionTime) → HeldIfAny x → heldIfAny o ≡ true → (not (isOn o) || isTimed policy) ≡ true → FromIfAny (s .head .clock) (earliestOptOf x o)
       → TimerIfAny policy (s .head .clock) o
   timer-of policy x None p h e a = tt
-  timer-of policy x (Some t) p h e a = record { timed = e; held = holds (held t) h; ahead = ahead-second (s .head .clock) x t p (holds (held t) h) a }
+  timer-of policy x (Some t) p h e a = record { timed = e; held = holds (held t) h; ahead = from-right (s .head .clock) x (Some t) p (holds (held t) h) a }
 
   state-of : (policy : Policy) (sent : ℕ) (x : SenderState) → heldSender x ≡ true → startedFit s x ≡ true → ackFit x ≡ true → heldWindowFit x ≡ true → timerFit policy x ≡ true
-      → AheadIfAny (s .head .clock) (stateNext sent x (s .head .clock)) → StateOk policy (s .head .clock) x
+      → FromIfAny (s .head .clock) (stateNext sent x (s .head .clock)) → StateOk policy (s .head .clock) x
   state-of policy sent State.WaitingForEnable h t c w e a = tt
   state-of policy sent (State.Enabled x) h t c w e a =
       record {
@@ -380,13 +337,13 @@ module _ (s : Simulation) (j : ℕ) (all : steady s ≡ true) (full : Full s) (n
     at : (g : ℕ → Bool) → eachSender s g ≡ true → g i ≡ true
     at g e = upTo-at (s .network .senders) g e i h
 
-    sender-ahead : AheadIfAny (s .head .clock) (stateNext (senderAt s i .«packets_sent») (senderAt s i .state) (s .head .clock))
+    sender-ahead : FromIfAny (s .head .clock) (stateNext (senderAt s i .«packets_sent») (senderAt s i .state) (s .head .clock))
     unfolding ownTime senderNext
-    sender-ahead = role-ahead (senderPart i) (sender i) (omega (arith, few)) (role-sender (s .network .senders) i h)
+    sender-ahead = role-ahead (sender i) h
 
     toggle-ahead : NotAfter (s .head .clock) (togglerAt s i .«next_toggle»)
     unfolding ownTime
-    toggle-ahead = role-ahead (togglerPart i) (toggler i) (omega (arith, few)) (role-toggler (s .network .senders) i h)
+    toggle-ahead = role-ahead (toggler i) h
 
     meter-ok : MeterOk (s .network .bits) (s .head .clock) (meterAt s i)
     unfolding totalsFit sumsFit meterBitsFit

@@ -57,7 +57,8 @@ use Rattle.remy.proofs.Steps.{cond-elim}
 use Rattle.remy.proofs.Parts.{new-is}
 use Rattle.remy.proofs.Outcomes.{OnMoves, on-picked, on-stopped}
 use Rattle.steady.proofs.Facts.{All, PacketOk, TransitOk, LineOk, PartOk, Body, Loose, PlaceOk, QueueBut, QueueOk, Between, Held, NotAfter}
-use Rattle.steady.proofs.Requeue.{Real, line-changes, sender-changes, toggler-changes, meter-changes, requeued-ahead, requeued, requeue-body}
+use Rattle.steady.proofs.Roles.{Real, role-at}
+use Rattle.steady.proofs.Requeue.{line-changes, sender-changes, toggler-changes, meter-changes, requeued-ahead, requeued, requeue-body}
 use Rattle.steady.proofs.Pick.{some-senders, picked-between}
 use Rattle.steady.proofs.LineSteps.{begun, started, leave-body, leave-loose, start-body, start-loose, arrive-body}
 use Rattle.steady.proofs.PartSteps.{timer-body, send-body, send-loose, return-body, toggle-body}
@@ -333,22 +334,10 @@ unfolding outcomeOf actsOf
 nobody-lands s = tt
 
 pub turn-lands : (s : Simulation) (j : ℕ) → Between j s → T (le (s .head .clock .0 .0) (power 40)) → OnMoves LandedBy (outcomeOf s (roleOf (s .network .senders) j))
-unfolding roleOf
-turn-lands s j b early =
-    let n = s .network .senders in
-    let i = (j - 1) / 2 in
-    let F : Role → Type 0 = λ role. OnMoves LandedBy (outcomeOf s role) in
-    let there = cond (eqb (j % 2) 1) (sender i) (toggler i) in
-    cond-elim F (eqb j 0) link (cond (ltb i n) there nobody)
-    (λ first. link-lands s (subst (λ (k : ℕ). Between k s) (eqb-true j 0 first) b) early)
-    (λ other. cond-elim F (ltb i n) there nobody
-    (λ inside. cond-elim F (eqb (j % 2) 1) (sender i) (toggler i)
-    (λ odd. sender-lands s i (ltb-true i n inside) (subst (λ (k : ℕ). Between k s) (odd-part j (eqb-true (j % 2) 1 odd)) b) early)
-    (λ even. toggler-lands s i (ltb-true i n inside) (subst (λ (k : ℕ). Between k s) (even-part j (eqb-false j 0 other) (eqb-false (j % 2) 1 even)) b) early))
-    (λ outside. nobody-lands s))
+turn-lands s j b early = role-at (λ (role : Role). OnMoves LandedBy (outcomeOf s role)) (s .network .senders) j at (nobody-lands s)
   where
-    odd-part : (j : ℕ) → j % 2 ≡ 1 → j ≡ 1 + 2 * ((j - 1) / 2)
-    odd-part j e = omega (arith, e)
-
-    even-part : (j : ℕ) → (j ≡ 0 → ⊥) → (j % 2 ≡ 1 → ⊥) → j ≡ 2 + 2 * ((j - 1) / 2)
-    even-part j e f = omega (arith, e, f)
+    at : (role : Role) → Real (s .network .senders) role → j ≡ partOf role → OnMoves LandedBy (outcomeOf s role)
+    at link r e = link-lands s (subst (λ (k : ℕ). Between k s) e b) early
+    at (sender i) r e = sender-lands s i r (subst (λ (k : ℕ). Between k s) e b) early
+    at (toggler i) r e = toggler-lands s i r (subst (λ (k : ℕ). Between k s) e b) early
+    at nobody r e = absurd r
