@@ -7,7 +7,7 @@ pub mod Open
 pub mod Close
 pub mod LineSteps
 pub mod Stores
-pub mod PartTimes
+pub mod Times
 pub mod Senders
 pub mod Meters
 pub mod PartSteps

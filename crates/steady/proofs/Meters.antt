@@ -23,7 +23,7 @@ use Rattle.remy.proofs.Steps.{cond-elim}
 use Rattle.remy.proofs.Parts.{turned-records}
 use Rattle.remy.proofs.Taken.{MeterFacts, switch-taken}
 use Rattle.steady.proofs.Facts.{Past, PastIfAny, MeterOk}
-use Rattle.steady.proofs.PartTimes.{Early, now-past, total-grows}
+use Rattle.steady.proofs.Times.{Early, now-past, total-grows}
 
 -- ---- a record
 

@@ -60,6 +60,7 @@ use Rattle.steady.proofs.Facts.{All, PacketOk, TransitOk, LineOk, PartO
 use Rattle.steady.proofs.Roles.{Real, role-at}
 use Rattle.steady.proofs.Requeue.{line-changes, sender-changes, toggler-changes, meter-changes, requeued-ahead, requeued, requeue-body}
 use Rattle.steady.proofs.Pick.{some-senders, picked-between}
+use Rattle.steady.proofs.Times.{Early}
 use Rattle.steady.proofs.LineSteps.{begun, started, leave-body, leave-loose, start-body, start-loose, arrive-body}
 use Rattle.steady.proofs.PartSteps.{timer-body, send-body, send-loose, return-body, toggle-body}
 
@@ -98,7 +99,7 @@ but s j q k h apart = q k h
 
 -- ---- a packet that starts, or does not: the line alone changes
 
-module _ (s : Simulation) (b : Body s) (early : T (le (s .head .clock .0 .0) (power 40))) where
+module _ (s : Simulation) (b : Body s) (early : Early (s .head .clock)) where
   transmit-elim : (F : Transmitted → Type 0) → F (notStarted (s .line) 0) → ((m : ℕ) → eqb m 0 ≡ false → F (notStarted (s .line) m))
       → (Body (started s) → ((p : Packet) → Loose s p → Loose (started s) p) → F (record { number = 0; begun = Begun.Starts (begun s); line = started s .line }))
       → F (tryTransmit (s .line) (s .head .clock) (firstOf s) (spanOf (s .network .delay)) (rateOf (s .network .rate)) (packetBits (s .network) (firstOf s)))
@@ -125,7 +126,7 @@ module _ (s : Simulation) (b : Body s) (early : T (le (s .head .clock .0 .0) (po
 
 -- ---- a packet that comes back
 
-module _ (s : Simulation) (b : Body s) (q : QueueOk s) (early : T (le (s .head .clock .0 .0) (power 40))) (r : TickRecord) (p : Packet) (l : Loose s p) where
+module _ (s : Simulation) (b : Body s) (q : QueueOk s) (early : Early (s .head .clock)) (r : TickRecord) (p : Packet) (l : Loose s p) where
   heard-queue : (x : LossySender) (h : Heard) → QueueBut (senderPart (p .sender)) (heardMeter (withSender s (p .sender) x) (p .sender) p h)
   heard-queue x Heard.Ignored = sender-changes s (p .sender) x (but s (senderPart (p .sender)) q)
   heard-queue x Heard.Old = sender-changes s (p .sender) x (but s (senderPart (p .sender)) q)
@@ -148,7 +149,7 @@ module _ (s : Simulation) (b : Body s) (q : QueueOk s) (early : T (le (s .head .
 
 -- ---- the link's turn
 
-module _ (s : Simulation) (b : Between 0 s) (early : T (le (s .head .clock .0 .0) (power 40))) where
+module _ (s : Simulation) (b : Between 0 s) (early : Early (s .head .clock)) where
   -- the line changed, and the link is queued again
   link-ready : (m : Simulation) → m .network ≡ s .network → m .head ≡ s .head → m .senders ≡ s .senders → m .togglers ≡ s .togglers → m .queue ≡ s .queue → Body m → Ready (requeue m link)
   link-ready m n h x t q body = ready m link body tt (line-changes s m n h x t q (b .queue)) (subst (λ (x : RemyNetwork). 1 ≤ x .senders) (sym n) (some-senders 0 s b))
@@ -220,7 +221,7 @@ module _ (s : Simulation) (b : Between 0 s) (early : T (le (s .head .clock .0 .0
 
 -- ---- a sender's turn
 
-module _ (s : Simulation) (i : ℕ) (h : i < s .network .senders) (b : Between (senderPart i) s) (early : T (le (s .head .clock .0 .0) (power 40))) where
+module _ (s : Simulation) (i : ℕ) (h : i < s .network .senders) (b : Between (senderPart i) s) (early : Early (s .head .clock)) where
   some-sender : 1 ≤ s .network .senders
   some-sender = omega (arith, h)
 
@@ -286,7 +287,7 @@ module _ (s : Simulation) (i : ℕ) (h : i < s .network .senders) (b : Between (
 
 -- ---- a toggler's turn
 
-module _ (s : Simulation) (i : ℕ) (h : i < s .network .senders) (b : Between (togglerPart i) s) (early : T (le (s .head .clock .0 .0) (power 40))) where
+module _ (s : Simulation) (i : ℕ) (h : i < s .network .senders) (b : Between (togglerPart i) s) (early : Early (s .head .clock)) where
   -- a switched sender reads nothing of the queue
   same-switched : (m : Simulation) (on : Bool) → switchedSender m i on ≡ switchedSender (requeue m (toggler i)) i on
   unfolding requeue
@@ -334,8 +335,11 @@ unfolding outcomeOf actsOf
 nobody-lands s = tt
 
 pub turn-lands : (s : Simulation) (j : ℕ) → Between j s → T (le (s .head .clock .0 .0) (power 40)) → OnMoves LandedBy (outcomeOf s (roleOf (s .network .senders) j))
-turn-lands s j b early = role-at (λ (role : Role). OnMoves LandedBy (outcomeOf s role)) (s .network .senders) j at (nobody-lands s)
+turn-lands s j b high = role-at (λ (role : Role). OnMoves LandedBy (outcomeOf s role)) (s .network .senders) j at (nobody-lands s)
   where
+    early : Early (s .head .clock)
+    early = record { low = b .body .clock; high = high }
+
     at : (role : Role) → Real (s .network .senders) role → j ≡ partOf role → OnMoves LandedBy (outcomeOf s role)
     at link r e = link-lands s (subst (λ (k : ℕ). Between k s) e b) early
     at (sender i) r e = sender-lands s i r (subst (λ (k : ℕ). Between k s) e b) early
