@@ -20,7 +20,6 @@ use Rattle.components.specs.declared.lossy.SenderState.the-variants as State
 use Rattle.components.specs.Ring.{places}
 use Rattle.components.specs.Queue.{queuePlaces}
 use Rattle.remy.specs.declared.simulation.Next.{Next}
-use Rattle.remy.specs.declared.simulation.Next.the-variants as Next
 use Rattle.remy.specs.declared.simulation.Simulation.{Simulation}
 use Rattle.remy.specs.Network.{between, networkStop}
 use Rattle.remy.specs.State.{senderAt, togglerAt, meterAt, queuedAt, waitingItems, onLineItems, onLinePackets, packetBits, totalBits}

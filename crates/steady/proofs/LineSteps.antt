@@ -1,18 +1,16 @@
 -- A packet that leaves, starts or arrives keeps the facts of a state, the queue apart. Assumes nothing.
 use mathlib.Core.Path.{_≡_, refl, sym, ap, subst, _∙_}
-use mathlib.Core.Bool.{Bool, true, false, cond}
+use mathlib.Core.Bool.{true, false, cond}
 use mathlib.Core.List.{List, [], _∷_, _++_, map}
 use Prim.Native.Nat.{ℕ, _+_, _≤_, _<_}
 use native.Mathlib.Nat.{add-zero}
 use native.Mathlib.Omega.{arith}
 use borrow.Author.Tests.{leb-false, eq-eqb, eqb-true}
-use lib.Dec.{T, leb, eqb}
+use lib.Dec.{leb, eqb}
 use lib.ListN.{set}
-use lib.Ieee.{binary64, add, le}
+use lib.Ieee.{le}
 use lib.Ieee.Bits.{is-true}
-use Rattle.quantities.specs.declared.time.Time.{Time}
-use Rattle.quantities.specs.declared.time_span.TimeSpan.{TimeSpan}
-use Rattle.quantities.specs.Doubles.{zeroF, power, least, largest, inRange}
+use Rattle.quantities.specs.Doubles.{power}
 use Rattle.quantities.specs.Units.{spanOf, rateOf, amountOf, amountOverRate, after}
 use Rattle.quantities.proofs.Order.{le-known-r, le-refl}
 use Rattle.quantities.proofs.Ranges.{within, test→within, sending}
@@ -20,7 +18,7 @@ use Rattle.components.specs.declared.packet.Packet.{Packet}
 use Rattle.components.specs.declared.packet.Transit.{Transit}
 use Rattle.components.specs.declared.link.Line.{Line}
 use Rattle.components.specs.Ring.{places, placeAfter, popped, items}
-use Rattle.components.specs.NewTime.{timeFine, newTime}
+use Rattle.components.specs.NewTime.{newTime}
 use Rattle.components.specs.Link.{admitted, departed, isDue, isFree, startedLine}
 use Rattle.components.proofs.Items.{items-push, items-pop, push-sound, pop-sound}
 use Rattle.components.proofs.Limits.{due-count, free-count}
@@ -30,9 +28,9 @@ use Rattle.remy.specs.State.{noPacket, noTransit, senderAt, meterAt, firstOf, f
 use Rattle.remy.specs.Fit.{countOf, rising}
 use Rattle.remy.proofs.Lists.{map-append, bits-append}
 use Rattle.remy.proofs.Facts.{both-l, both-r, both-i, range-low, range-high}
-use Rattle.remy.proofs.Networks.{FitNetwork, fit-network, some-bits, few-bits, delay-from-zero, sending-from-zero}
+use Rattle.remy.proofs.Networks.{FitNetwork, fit-network, some-bits, few-bits, sending-from-zero}
 use Rattle.remy.proofs.Steps.{cond-elim}
-use Rattle.steady.proofs.Facts.{All, NotAfter, Held, PacketOk, TransitOk, LineOk, sentOf, Body, Loose}
+use Rattle.steady.proofs.Facts.{All, NotAfter, PacketOk, TransitOk, LineOk, sentOf, Body, Loose}
 use Rattle.steady.proofs.Lists.{all-append, all-map, count-append}
 use Rattle.steady.proofs.Times.{Early, short, new-held, new-ahead}
 

@@ -2,18 +2,18 @@
 use mathlib.Core.Path.{_≡_, refl, sym, ap, subst, _∙_}
 use mathlib.Core.Bool.{Bool, true, false, not, _&&_, _||_, Bool·beq, false≢true, cond}
 use mathlib.Core.List.{List, [], _∷_}
-use Prim.Native.Nat.{ℕ, _+_, _-_, _*_, _/_, _%_, _≤_, _<_}
+use Prim.Native.Nat.{ℕ, _+_, _*_, _≤_, _<_}
 use native.Mathlib.Decide.{ℕ-discrete}
 use native.Mathlib.Omega.{arith}
-use borrow.Author.Tests.{lt-ltb, ne-eqb, leb-true, ltb-true, eqb-true}
-use lib.Dec.{T, leb, ltb, eqb}
+use borrow.Author.Tests.{ne-eqb, leb-true, ltb-true, eqb-true}
+use lib.Dec.{leb, ltb, eqb}
 use lib.Ieee.{le, eq}
 use Rattle.quantities.specs.declared.time.Time.{Time}
 use Rattle.quantities.specs.declared.time.OptionTime.{OptionTime}
 use Rattle.quantities.specs.declared.time.OptionTime.the-variants.{None, Some}
-use Rattle.quantities.specs.Doubles.{zeroF, power, largest, earlier}
+use Rattle.quantities.specs.Doubles.{zeroF, largest}
 use Rattle.quantities.specs.Units.{latestOf, earliestOptOf}
-use Rattle.quantities.proofs.Order.{le-known-l, le-trans, eq→le, later-least, earlier-right}
+use Rattle.quantities.proofs.Order.{le-trans}
 use Rattle.meters.specs.Meter.{isOn, totalFit, sumFit}
 use Rattle.components.specs.declared.packet.Packet.{Packet}
 use Rattle.components.specs.declared.packet.Transit.{Transit}
@@ -29,7 +29,7 @@ use Rattle.remy.specs.declared.simulation.Next.{Next}
 use Rattle.remy.specs.declared.simulation.Next.the-variants as Next
 use Rattle.remy.specs.declared.simulation.Simulation.{Simulation}
 use Rattle.remy.specs.Network.{between, networkStop}
-use Rattle.remy.specs.State.{Role, link, sender, toggler, roleOf, senderPart, togglerPart, noTransit, senderAt, togglerAt, meterAt, queuedAt, frontOf, waitingItems, onLineItems, onLinePackets, packetBits, totalBits}
+use Rattle.remy.specs.State.{Role, link, sender, toggler, roleOf, noTransit, senderAt, togglerAt, meterAt, queuedAt, frontOf, waitingItems, onLineItems, onLinePackets, packetBits, totalBits}
 use Rattle.remy.specs.Queue.{ownTime, nextTimeOf, partOf}
 use Rattle.remy.specs.Fit.{every, upTo, eachSender, packetFit, held, heldIfAny, isIdle, heldSender, heldQueued, isNext, sinceStart, startedFit, meterStartFit, countOf, rising, ackFit, heldWindowFit, isTimed, timerFit, senderOn, sameTime, nextFit, networkFit, ringsFit, packetsFit, bitsFit, clockFit, heldTimesFit, pastFit, totalsFit, sumsFit, recordsFit, dueFit, countsFit, windowsFit, timersFit, togglersAgree, metersAgree, meterBitsFit, queueFit, fit}
 use Rattle.remy.proofs.Facts.{both-l, both-r, holds, range-low, range-high, between-low, between-high, upTo-at, FitState, fit-state}

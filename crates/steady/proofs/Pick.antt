@@ -1,6 +1,6 @@
 -- The pick: where there is a sender, the least queued time becomes the clock, and then every part's own next time is what it was. Assumes nothing.
 use mathlib.Core.Path.{_≡_, refl, sym, ap, ap₂, subst, _∙_}
-use mathlib.Core.Bool.{Bool, true, false, not, cond, false≢true}
+use mathlib.Core.Bool.{Bool, true, false, cond, false≢true}
 use mathlib.Core.List.{List, [], _∷_}
 use Prim.Native.Nat.{ℕ, _≤_, _<_}
 use native.Mathlib.Omega.{arith}
@@ -8,15 +8,15 @@ use borrow.Author.Tests.{eqb-true, eqb-false}
 use lib.Dec.{T, eqb}
 use lib.ListN.{set, length-set}
 use lib.Seq.{getD-set-other}
-use lib.Ieee.{Float, binary64, le, eq, isNan}
+use lib.Ieee.{Float, binary64, le, eq}
 use lib.Ieee.Bits.{is-true}
 use Rattle.quantities.specs.declared.time.Time.{Time}
 use Rattle.quantities.specs.declared.time.OptionTime.{OptionTime}
 use Rattle.quantities.specs.declared.time.OptionTime.the-variants.{None, Some}
-use Rattle.quantities.specs.Doubles.{zeroF, power, earlier}
-use Rattle.quantities.specs.Units.{spanOf, latestOf, earliestOf, earliestOptOf}
+use Rattle.quantities.specs.Doubles.{zeroF, power}
+use Rattle.quantities.specs.Units.{spanOf, latestOf, earliestOptOf}
 use Rattle.quantities.specs.Units.{after as spanAfter}
-use Rattle.quantities.proofs.Order.{le-known-l, le-known-r, le-trans, le-antisym, eq→le, eq→ge, eq-trans, later-left, later-right, later-least, earlier-left, earlier-right, earlier-most}
+use Rattle.quantities.proofs.Order.{le-known-l, le-known-r, le-trans, le-antisym, later-left, later-right, later-least}
 use Rattle.quantities.proofs.Ranges.{test→within, within-finite, due-order}
 use Rattle.meters.specs.declared.meter.AverageFlowMeter.{AverageFlowMeter}
 use Rattle.components.specs.declared.packet.Packet.{Packet}

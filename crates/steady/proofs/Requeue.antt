@@ -1,22 +1,19 @@
 -- The queue under the stores of a tick: a store that one part alone reads leaves the other places right, and the requeue puts that part's place right. Assumes nothing.
 use mathlib.Core.Path.{_≡_, refl, ap, ap₂, subst, _∙_}
-use mathlib.Core.Bool.{true, not, _&&_, cond, false≢true}
+use mathlib.Core.Bool.{_&&_}
 use mathlib.Core.List.{List}
-use Prim.Native.Nat.{ℕ, _-_, _/_, _%_, _<_}
+use Prim.Native.Nat.{ℕ, _<_}
 use native.Mathlib.Decide.{ℕ-discrete}
 use native.Mathlib.Omega.{arith}
-use borrow.Author.Tests.{lt-ltb, eq-eqb, ne-eqb, ltb-true, eqb-true, eqb-false}
-use lib.Dec.{T, ltb, eqb}
+use borrow.Author.Tests.{eqb-false}
+use lib.Dec.{eqb}
 use lib.ListN.{length, getD, set, length-set}
 use lib.Seq.{getD-set-same, getD-set-other}
-use lib.Ieee.{le, eq, isNan}
-use lib.Ieee.Bits.{is-true}
+use lib.Ieee.{le}
 use Rattle.quantities.specs.declared.time.Time.{Time}
 use Rattle.quantities.specs.declared.time.OptionTime.{OptionTime}
 use Rattle.quantities.specs.declared.time.OptionTime.the-variants.{None, Some}
-use Rattle.quantities.specs.Doubles.{power}
-use Rattle.quantities.specs.Units.{latestOf, earliestOf, earliestOptOf}
-use Rattle.quantities.proofs.Order.{le-known-l, le-refl, le-trans, eq-refl, later-left, later-least, earlier-left, earlier-most}
+use Rattle.quantities.specs.Units.{latestOf}
 use Rattle.meters.specs.declared.meter.AverageFlowMeter.{AverageFlowMeter}
 use Rattle.components.specs.declared.packet.Transit.{Transit}
 use Rattle.components.specs.declared.lossy.Policy.{Policy}
@@ -36,9 +33,8 @@ use Rattle.remy.specs.declared.simulation.Simulation.{Simulation}
 use Rattle.remy.specs.State.{Role, link, sender, toggler, nobody, senderPart, togglerPart, roleOf, noTransit, noSender, noToggler, senderAt, frontOf, queuedAt, withSender, withToggler, withMeter, withMeters, withQueue, withQueued}
 use Rattle.remy.specs.Queue.{ownTime, nextTimeOf, partOf, requeue}
 use Rattle.remy.specs.Fit.{held, heldQueued, sameTime}
-use Rattle.remy.proofs.Facts.{both-i}
 use Rattle.remy.proofs.Steps.{cond-elim}
-use Rattle.steady.proofs.Facts.{All, NotAfter, Held, TransitOk, StateOk, TimerIfAny, Body, sentOf, PlaceOk, QueueBut, QueueOk}
+use Rattle.steady.proofs.Facts.{All, Held, TransitOk, StateOk, TimerIfAny, Body, sentOf, PlaceOk, QueueBut, QueueOk}
 use Rattle.steady.proofs.Lists.{all-first}
 use Rattle.steady.proofs.Roles.{Real, role-at, role-of}
 use Rattle.steady.proofs.Ahead.{Ahead, ahead-queued, same-self, ahead-now, ahead-latest, ahead-earliest}

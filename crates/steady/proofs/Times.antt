@@ -1,14 +1,14 @@
 -- Times at an early clock: new times, timers, and spans since a past time. Assumes nothing.
-use mathlib.Core.Path.{_≡_, refl, sym, subst}
-use mathlib.Core.Bool.{Bool, true, false, _&&_}
-use Prim.Native.Nat.{ℕ, zero, suc, _-_, _*_, _/_, _≤_}
+use mathlib.Core.Path.{_≡_, refl}
+use mathlib.Core.Bool.{Bool, true, false}
+use Prim.Native.Nat.{ℕ, _-_, _*_, _≤_}
 use native.Mathlib.Nat.{mul-assoc, mul-le-mul-right, sub-le}
 use native.Mathlib.Nat
 use native.Mathlib.Omega.{arith}
 use borrow.Author.Tests.{eqb-true}
 use lib.Dec.{T, eqb}
 use lib.IntN.{negsuc}
-use lib.Ieee.{Float, Format, binary64, fin, add, sub, lt, le, fits}
+use lib.Ieee.{Float, Format, binary64, fin, add, sub, le, fits}
 use lib.Ieee.Scale.{finite}
 use lib.Ieee.Positive.{num, den}
 use Rattle.quantities.specs.declared.time.Time.{Time}
@@ -18,22 +18,16 @@ use Rattle.quantities.specs.declared.time_span.TimeSpan.{TimeSpan}
 use Rattle.quantities.specs.Doubles.{zeroF, power, least, largest, inRange}
 use Rattle.quantities.specs.Units.{spanOf, since, spanSum}
 use Rattle.quantities.specs.Units.{after as spanAfter}
-use Rattle.quantities.proofs.Order.{le-trans, le-refl, le-known-r, lt→le}
+use Rattle.quantities.proofs.Order.{le-trans, le-refl, le-known-r}
 use Rattle.quantities.proofs.Values.{Is, Rounds, own, le-is, rounds-below, rounds-from-zero, sub-rounds}
 use Rattle.quantities.proofs.Ranges.{within, within-wider, within-finite, test→within, add-within}
-use Rattle.quantities.proofs.Uniform.{sample-within, draw-fine}
-use Rattle.rand.specs.declared.generator.Rng.{Rng}
-use Rattle.rand.specs.declared.distribution.ContinuousDistribution.{ContinuousDistribution}
-use Rattle.rand.specs.declared.distribution.ContinuousDistribution.the-variants.{Always, Uniform}
-use Rattle.rand.specs.Generator.{outputOf}
-use Rattle.rand.specs.Draws.{sampleOf, unitOf, uniformOf, drawOf, PositiveDraw, redraw}
 use Rattle.meters.specs.Meter.{totalFit}
 use Rattle.components.specs.declared.lossy.Policy.{Policy}
 use Rattle.components.specs.declared.lossy.Policy.the-variants as Policy
 use Rattle.components.specs.declared.lossy.TimerSet.{TimerSet}
 use Rattle.components.specs.NewTime.{timeFine, newTime}
 use Rattle.components.specs.Sender.{timerIn, timerSent}
-use Rattle.remy.specs.Network.{windowFit, gapFit, timesFit, policyFit}
+use Rattle.remy.specs.Network.{windowFit, gapFit, policyFit}
 use Rattle.remy.proofs.Facts.{both-r, holds, range-low, range-high, range-i}
 use Rattle.remy.proofs.Parts.{new-is}
 use Rattle.remy.proofs.Steps.{cond-elim}

@@ -1,24 +1,18 @@
 -- Each part's turn keeps a steady state: what it stores, requeues and picks. Assumes nothing.
-use mathlib.Core.Path.{_≡_, refl, sym, ap, subst, _∙_}
-use mathlib.Core.Bool.{Bool, true, false, not, _&&_, cond, true≢false, false≢true}
-use mathlib.Core.List.{List, [], _∷_, map}
-use mathlib.Core.Logic.{_⊎_, inl, inr, ⊎-elim}
-use Prim.Native.Nat.{ℕ, zero, suc, _+_, _*_, _-_, _/_, _%_, _≤_, _<_}
+use mathlib.Core.Path.{_≡_, refl, sym, subst}
+use mathlib.Core.Bool.{Bool, true, false, cond}
+use mathlib.Core.List.{[], _∷_}
+use Prim.Native.Nat.{ℕ, _≤_, _<_}
 use native.Mathlib.Omega.{arith}
-use borrow.Author.Tests.{eq-eqb, ne-eqb, eqb-true, eqb-false, ltb-true, lt-ltb, leb-true}
-use lib.Dec.{T, leb, ltb, eqb}
+use borrow.Author.Tests.{eqb-true}
+use lib.Dec.{T, leb, eqb}
 use lib.Ieee.{lt, le}
-use lib.ListN.{getD, set}
-use Rattle.quantities.specs.declared.time.Time.{Time}
-use Rattle.quantities.specs.declared.time.OptionTime.{OptionTime}
-use Rattle.quantities.specs.declared.time.OptionTime.the-variants.{None, Some}
-use Rattle.quantities.specs.Doubles.{zeroF, power}
-use Rattle.quantities.specs.Units.{spanOf, rateOf, amountOverRate, after, earliestOptOf}
+use lib.ListN.{set}
+use Rattle.quantities.specs.Doubles.{power}
+use Rattle.quantities.specs.Units.{spanOf, rateOf, amountOverRate}
 use Rattle.rand.specs.Draws.{unitOf}
-use Rattle.meters.specs.declared.meter.AverageFlowMeter.{AverageFlowMeter}
 use Rattle.meters.specs.Meter.{switchedOf}
 use Rattle.components.specs.declared.packet.Packet.{Packet}
-use Rattle.components.specs.declared.packet.Transit.{Transit}
 use Rattle.components.specs.declared.link.Line.{Line}
 use Rattle.components.specs.declared.link.Arrival.{Arrival}
 use Rattle.components.specs.declared.link.Left.{Left}
@@ -26,37 +20,30 @@ use Rattle.components.specs.declared.link.Left.the-variants as Left
 use Rattle.components.specs.declared.link.Begun.the-variants as Begun
 use Rattle.components.specs.declared.link.Delivered.{Delivered}
 use Rattle.components.specs.declared.link.Transmitted.{Transmitted}
-use Rattle.components.specs.declared.lossy.Enabled.{Enabled}
 use Rattle.components.specs.declared.lossy.SenderState.{SenderState}
 use Rattle.components.specs.declared.lossy.SenderState.the-variants as State
 use Rattle.components.specs.declared.lossy.LossySender.{LossySender}
 use Rattle.components.specs.declared.lossy.Heard.{Heard}
 use Rattle.components.specs.declared.lossy.Heard.the-variants as Heard
-use Rattle.components.specs.declared.toggler.Toggler.{Toggler}
 use Rattle.components.specs.declared.toggler.Toggled.{Toggled}
-use Rattle.components.specs.Ring.{places, placeAfter, popped, items}
-use Rattle.components.specs.Link.{admits, admitted, receiveOf, isDue, departed, tryDeliver, isFree, startedLine, notStarted, startWith, tryTransmit, nextTransmit, nextDeliver, nextTick}
+use Rattle.components.specs.Ring.{places, placeAfter}
+use Rattle.components.specs.Link.{admits, admitted, receiveOf, isDue, departed, tryDeliver, isFree, startedLine, notStarted, startWith, tryTransmit}
 use Rattle.components.specs.Sender.{tickTimer, tickSend, timerDue, returnedOf}
 use Rattle.components.specs.Toggler.{toggleOf}
 use Rattle.components.specs.NewTime.{newTime}
-use Rattle.components.specs.Queue.{pickOf, queuePlaces}
-use Rattle.components.proofs.Items.{Sound, items-pop}
-use Rattle.components.proofs.Limits.{due-count}
+use Rattle.components.specs.Queue.{pickOf}
 use Rattle.remy.specs.declared.network.RemyNetwork.{RemyNetwork}
-use Rattle.remy.specs.declared.simulation.Next.{Next}
-use Rattle.remy.specs.declared.simulation.Next.the-variants as Next
 use Rattle.remy.specs.declared.simulation.Simulation.{Simulation}
 use Rattle.remy.specs.declared.simulation.Mark.the-variants as Mark
 use Rattle.remy.specs.declared.simulation.Name.the-variants as Name
 use Rattle.remy.specs.declared.simulation.TickRecord.{TickRecord}
-use Rattle.remy.specs.State.{Role, link, sender, toggler, nobody, roleOf, senderPart, togglerPart, noPacket, noTransit, senderAt, togglerAt, meterAt, firstOf, frontOf, packetBits, withLine, withWaiting, withOnLine, withSender, withToggler, withMeter}
+use Rattle.remy.specs.State.{Role, link, sender, toggler, nobody, roleOf, senderPart, togglerPart, senderAt, togglerAt, meterAt, firstOf, frontOf, packetBits, withLine, withWaiting, withSender, withToggler, withMeter}
 use Rattle.remy.specs.Queue.{ownTime, partOf, requeue, picked}
-use Rattle.remy.specs.Fit.{sameTime}
-use Rattle.remy.specs.Tick.{named, recordAt, Message, arrives, returns, switches, Acted, stopped, linkWith, linkActs, enabledSender, timerWith, sendWith, senderWith, senderActs, togglerWith, togglerActs, actsOf, Outcome, moves, stops, arriveWith, heardMeter, returnWith, switchedSender, switchWith, deliver, pickAgain, outcomeWith, outcomeOf}
+use Rattle.remy.specs.Tick.{named, recordAt, arrives, returns, switches, Acted, stopped, linkWith, linkActs, enabledSender, timerWith, sendWith, senderWith, senderActs, togglerActs, actsOf, Outcome, moves, stops, arriveWith, heardMeter, switchedSender, deliver, pickAgain, outcomeWith, outcomeOf}
 use Rattle.remy.proofs.Steps.{cond-elim}
 use Rattle.remy.proofs.Parts.{new-is}
-use Rattle.remy.proofs.Outcomes.{OnMoves, on-picked, on-stopped}
-use Rattle.steady.proofs.Facts.{All, PacketOk, TransitOk, LineOk, PartOk, Body, Loose, PlaceOk, QueueBut, QueueOk, Between, Held, NotAfter}
+use Rattle.remy.proofs.Outcomes.{OnMoves, on-stopped}
+use Rattle.steady.proofs.Facts.{Body, Loose, QueueBut, QueueOk, Between}
 use Rattle.steady.proofs.Roles.{Real, role-at}
 use Rattle.steady.proofs.Requeue.{line-changes, sender-changes, toggler-changes, meter-changes, requeued-ahead, requeued, requeue-body}
 use Rattle.steady.proofs.Pick.{some-senders, picked-between}
