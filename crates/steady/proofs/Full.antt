@@ -1,6 +1,6 @@
--- The arrays of a built simulation have all their places, and nothing is on its line. Assumes nothing.
+-- The arrays have all their places: with another queue of as many places, and in a built simulation, on whose line nothing is. Assumes nothing.
 use mathlib.Core.Path.{_≡_, refl, ap, _∙_}
-use mathlib.Core.List.{[]}
+use mathlib.Core.List.{List, []}
 use Prim.Native.Nat.{ℕ, zero, suc, _+_}
 use lib.Dec.{eqb}
 use lib.ListN.{length, set, length-set}
@@ -10,10 +10,12 @@ use Rattle.rand.specs.declared.generator.Rng.{Rng}
 use Rattle.rand.specs.declared.distribution.ContinuousDistribution.{ContinuousDistribution}
 use Rattle.rand.specs.Generator.{fromSeed, childOf}
 use Rattle.meters.specs.Meter.{newMeter}
+use Rattle.components.specs.declared.tick_queue.Queued.{Queued}
 use Rattle.components.specs.declared.tick_queue.Picked.{Picked}
 use Rattle.components.specs.Toggler.{newToggler}
 use Rattle.components.specs.Queue.{noQueued, pickOf, queuePlaces}
 use Rattle.remy.specs.declared.network.RemyNetwork.{RemyNetwork}
+use Rattle.remy.specs.declared.simulation.Head.{Head}
 use Rattle.remy.specs.declared.simulation.Simulation.{Simulation}
 use Rattle.remy.specs.declared.simulation.Built.{Built}
 use Rattle.remy.specs.Network.{networkStop}
@@ -23,6 +25,10 @@ use Rattle.remy.specs.Build.{newSender, zeroWords, blankPacket, blankTransit, b
 use Rattle.remy.proofs.Steps.{cond-elim}
 use Rattle.remy.proofs.Start.{same-length}
 use Rattle.steady.specs.Steady.{Full}
+
+-- another head, and as many places in the queue
+pub full-queue : (s : Simulation) (head : Head) (queue : List Queued) → length queue ≡ queuePlaces → Full s → Full (withHead (withQueue s queue) head)
+full-queue s head queue e f = record { waiting = f .waiting; moving = f .moving; senders = f .senders; togglers = f .togglers; meters = f .meters; queue = e }
 
 record FullParts (p : Parts) : Type 0 where
   senders : length (p .senders) ≡ 16
@@ -55,13 +61,10 @@ unfolding picked
 picked-new s k = by (pickOf (s .queue)) (pickOf (s .queue) .time)
   where
     by : (p : Picked) (o : OptionTime) → New (withHead (withQueue s (removed (s .queue) p o)) (headOf p o))
-    by p None =
-        let f = k .full in
-        record { full = record { waiting = f .waiting; moving = f .moving; senders = f .senders; togglers = f .togglers; meters = f .meters; queue = f .queue }; none = k .none }
+    by p None = record { full = full-queue s (headOf p None) (s .queue) (k .full .queue) (k .full); none = k .none }
     by p (Some t) =
-        let f = k .full in
-        let queue = length-set (s .queue) (p .part) noQueued ∙ f .queue in
-        record { full = record { waiting = f .waiting; moving = f .moving; senders = f .senders; togglers = f .togglers; meters = f .meters; queue = queue }; none = k .none }
+        let queue = set (s .queue) (p .part) noQueued in
+        record { full = full-queue s (headOf p (Some t)) queue (length-set (s .queue) (p .part) noQueued ∙ k .full .queue) (k .full); none = k .none }
 
 queued-new : (n : RemyNetwork) (g : Rng) (p : Parts) → FullParts p → New (queuedAll (unqueued n g p))
 unfolding queuedAll

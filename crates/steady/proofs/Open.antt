@@ -31,12 +31,13 @@ use Rattle.remy.specs.declared.simulation.Simulation.{Simulation}
 use Rattle.remy.specs.Network.{between, networkStop}
 use Rattle.remy.specs.State.{Role, link, sender, toggler, roleOf, noTransit, senderAt, togglerAt, meterAt, queuedAt, frontOf, waitingItems, onLineItems, onLinePackets, packetBits, totalBits}
 use Rattle.remy.specs.Queue.{ownTime, nextTimeOf, partOf}
-use Rattle.remy.specs.Fit.{every, upTo, eachSender, packetFit, held, heldIfAny, isIdle, heldSender, heldQueued, isNext, sinceStart, startedFit, meterStartFit, countOf, rising, ackFit, heldWindowFit, isTimed, timerFit, senderOn, sameTime, nextFit, networkFit, ringsFit, packetsFit, bitsFit, clockFit, heldTimesFit, pastFit, totalsFit, sumsFit, recordsFit, dueFit, countsFit, windowsFit, timersFit, togglersAgree, metersAgree, meterBitsFit, queueFit, fit}
+use Rattle.remy.specs.Fit.{every, upTo, eachSender, packetFit, held, heldIfAny, isIdle, heldSender, heldQueued, isNext, sinceStart, startedFit, meterStartFit, countOf, rising, ackFit, heldWindowFit, isTimed, timerFit, senderOn, sameTime, nextFit, networkFit, ringsFit, packetsFit, bitsFit, clockFit, totalsFit, sumsFit, recordsFit, dueFit, countsFit, windowsFit, timersFit, togglersAgree, metersAgree, meterBitsFit, queueFit, fit}
 use Rattle.remy.proofs.Facts.{both-l, both-r, holds, range-low, range-high, between-low, between-high, upTo-at, FitState, fit-state}
 use Rattle.remy.proofs.Networks.{fit-network, few-senders}
 use Rattle.remy.proofs.Steps.{cond-elim}
 use Rattle.steady.specs.Steady.{dueSoon, steady, Full}
 use Rattle.steady.proofs.Facts.{All, NotAfter, Held, Past, PastIfAny, PacketOk, TransitOk, LineOk, TimerIfAny, StateOk, MeterOk, PartOk, sentOf, Body, QueueBut, Between}
+use Rattle.steady.proofs.Clauses.{HeldTimes, held-times, PastTimes, past-times}
 use Rattle.steady.proofs.Lists.{all-with, every-all, all-unmapped}
 use Rattle.steady.proofs.Roles.{Real, role-of, part-inside}
 use Rattle.steady.proofs.Ahead.{HeldIfAny, FromIfAny, ahead-now, ahead-latest, queued-ahead, from-same, from-right}
@@ -70,70 +71,6 @@ ahead-rising clock x (y ∷ ys) e a =
           (le-trans (clock .0 .0) (x .due .0 .0) (y .due .0 .0) a (holds step (both-l step (rising (y ∷ ys)) e))),
     )
 
--- ---- the clause of held times
-
-record Times (s : Simulation) : Type 0 where
-  clock : (held (s .head .clock) || (isIdle (s .head .next) && eq (s .head .clock .0 .0) largest)) ≡ true
-  free : held (s .line .«earliest_transmit») ≡ true
-  dues : every (λ x. held (x .due)) (onLineItems s) ≡ true
-  senders : eachSender s (λ i. heldSender (senderAt s i .state)) ≡ true
-  toggles : eachSender s (λ i. held (togglerAt s i .«next_toggle»)) ≡ true
-  queue : upTo queuePlaces (λ k. isNext (s .head .next) k || heldQueued s (queuedAt s k)) ≡ true
-
-times : (s : Simulation) → heldTimesFit s ≡ true → Times s
-unfolding heldTimesFit
-times s all =
-    let now = held (s .head .clock) || (isIdle (s .head .next) && eq (s .head .clock .0 .0) largest) in
-    let free = held (s .line .«earliest_transmit») in
-    let waiting = every (λ p. held (p .«sent_time»)) (waitingItems s) in
-    let moving = every (λ p. held (p .«sent_time»)) (onLinePackets s) in
-    let dues = every (λ x. held (x .due)) (onLineItems s) in
-    let senders = eachSender s (λ i. heldSender (senderAt s i .state)) in
-    let toggles = eachSender s (λ i. held (togglerAt s i .«next_toggle»)) in
-    let starts = eachSender s (λ i. heldIfAny (meterAt s i .«current_start»)) in
-    let queue = upTo queuePlaces (λ k. isNext (s .head .next) k || heldQueued s (queuedAt s k)) in
-    let to-waiting = now && free && waiting in
-    let to-dues = to-waiting && moving && dues in
-    let to-toggles = to-dues && senders && toggles in
-    let by-starts = both-l (to-toggles && starts) queue all in
-    let by-toggles = both-l to-toggles starts by-starts in
-    let by-senders = both-l (to-dues && senders) toggles by-toggles in
-    let by-dues = both-l to-dues senders by-senders in
-    let by-moving = both-l (to-waiting && moving) dues by-dues in
-    let by-free = both-l (now && free) waiting (both-l to-waiting moving by-moving) in
-    record {
-      clock = both-l now free by-free;
-      free = both-r now free by-free;
-      dues = both-r (to-waiting && moving) dues by-dues;
-      senders = both-r to-dues senders by-senders;
-      toggles = both-r (to-dues && senders) toggles by-toggles;
-      queue = both-r (to-toggles && starts) queue all;
-    }
-
--- ---- the clause of past times
-
-record Pasts (s : Simulation) : Type 0 where
-  waiting : every (λ p. sinceStart s (p .«sent_time»)) (waitingItems s) ≡ true
-  moving : every (λ p. sinceStart s (p .«sent_time»)) (onLinePackets s) ≡ true
-  senders : eachSender s (λ i. startedFit s (senderAt s i .state)) ≡ true
-  meters : eachSender s (λ i. meterStartFit s (meterAt s i .«current_start»)) ≡ true
-
-pasts : (s : Simulation) → pastFit s ≡ true → Pasts s
-unfolding pastFit
-pasts s all =
-    let waiting = every (λ p. sinceStart s (p .«sent_time»)) (waitingItems s) in
-    let moving = every (λ p. sinceStart s (p .«sent_time»)) (onLinePackets s) in
-    let senders = eachSender s (λ i. startedFit s (senderAt s i .state)) in
-    let meters = eachSender s (λ i. meterStartFit s (meterAt s i .«current_start»)) in
-    let by-senders = both-l (waiting && moving && senders) meters all in
-    let by-moving = both-l (waiting && moving) senders by-senders in
-    record {
-      waiting = both-l waiting moving by-moving;
-      moving = both-r waiting moving by-moving;
-      senders = both-r (waiting && moving) senders by-senders;
-      meters = both-r (waiting && moving && senders) meters all;
-    }
-
 -- ---- a steady state in which part j is next
 
 module _ (s : Simulation) (j : ℕ) (all : steady s ≡ true) (full : Full s) (next : s .head .next ≡ Next.Part j) where
@@ -145,11 +82,11 @@ module _ (s : Simulation) (j : ℕ) (all : steady s ≡ true) (full : Full s) (n
   unfolding steady
   soon = both-r (fit s) (every (dueSoon s) (onLineItems s)) all
 
-  held-times : Times s
-  held-times = times s (fits .held)
+  helds : HeldTimes s
+  helds = held-times s (fits .held)
 
-  past : Pasts s
-  past = pasts s (fits .past)
+  pasts : PastTimes s
+  pasts = past-times s (fits .past)
 
   accepted : networkStop (s .network) ≡ 0
   unfolding networkFit
@@ -161,10 +98,10 @@ module _ (s : Simulation) (j : ℕ) (all : steady s ≡ true) (full : Full s) (n
   clock-held : Held (s .head .clock)
   clock-held =
       holds (held (s .head .clock))
-      (or-first (held (s .head .clock)) (isIdle (s .head .next) && eq (s .head .clock .0 .0) largest) (ap (λ (n : Next). isIdle n && eq (s .head .clock .0 .0) largest) next) (held-times .clock))
+      (or-first (held (s .head .clock)) (isIdle (s .head .next) && eq (s .head .clock .0 .0) largest) (ap (λ (n : Next). isIdle n && eq (s .head .clock .0 .0) largest) next) (helds .clock))
 
   free-held : Held (s .line .«earliest_transmit»)
-  free-held = holds (held (s .line .«earliest_transmit»)) (held-times .free)
+  free-held = holds (held (s .line .«earliest_transmit»)) (helds .free)
 
   -- ---- the queue
 
@@ -186,15 +123,15 @@ module _ (s : Simulation) (j : ℕ) (all : steady s ≡ true) (full : Full s) (n
       let own : ℕ → Bool = λ i. sameTime (queuedAt s i) (nextTimeOf s i) in
       record {
         own = place own (both-r (nextFit s (s .head .next)) (upTo queuePlaces (λ i. isNext (s .head .next) i || own i)) (fits .queue)) k h other;
-        ahead = place (λ i. heldQueued s (queuedAt s i)) (held-times .queue) k h other;
+        ahead = place (λ i. heldQueued s (queuedAt s i)) (helds .queue) k h other;
       }
 
   -- no part's own next time is before the clock
   part-ahead : (k : ℕ) → k < queuePlaces → FromIfAny (s .head .clock) (nextTimeOf s k)
   part-ahead k h = elim (ℕ-discrete k j) [
     | yes same ↦
-      from-same (s .head .clock) (Some (s .head .clock)) (nextTimeOf s k) (subst (λ (i : ℕ). sameTime (Some (s .head .clock)) (nextTimeOf s i) ≡ true) (sym same) own-next)
-      (ahead-now (s .head .clock) clock-held .from)
+        from-same (s .head .clock) (Some (s .head .clock)) (nextTimeOf s k) (subst (λ (i : ℕ). sameTime (Some (s .head .clock)) (nextTimeOf s i) ≡ true) (sym same) own-next)
+        (ahead-now (s .head .clock) clock-held .from)
     | no other ↦ from-same (s .head .clock) (queuedAt s k) (nextTimeOf s k) (others k h other .own) (queued-ahead s (queuedAt s k) (others k h other .ahead) .from)
   ]
 
@@ -243,7 +180,7 @@ module _ (s : Simulation) (j : ℕ) (all : steady s ≡ true) (full : Full s) (n
       h b
 
   dues-held : All (λ x. held (x .due) ≡ true) (onLineItems s)
-  dues-held = every-all (λ x. held (x .due)) (onLineItems s) (held-times .dues)
+  dues-held = every-all (λ x. held (x .due)) (onLineItems s) (helds .dues)
 
   dues-ahead : All (λ x. NotAfter (s .head .clock) (x .due)) (onLineItems s)
   dues-ahead = elim (ℕ-discrete (s .line .«on_line» .count) 0) [
@@ -295,13 +232,13 @@ module _ (s : Simulation) (j : ℕ) (all : steady s ≡ true) (full : Full s) (n
         waits = rings .0;
         moves = rings .1;
         bits = eqb-true (s .line .«buffer_contains» .0) (totalBits (λ p. packetBits (s .network) p .0) (waitingItems s)) (fits .bits);
-        waiting-ok = packets-of (waitingItems s) (both-l packets moving-packets (fits .packets)) (past .waiting);
+        waiting-ok = packets-of (waitingItems s) (both-l packets moving-packets (fits .packets)) (pasts .waiting);
         moving-ok =
             all-with Due Sent (TransitOk (s .network .senders) (sentOf s) clock (s .network .delay))
             (λ x d p. record { packet = p .0; held = holds (held (x .due)) (d .0); ahead = d .1; soon = holds (dueSoon s x) (p .1) }) xs
             (all-with (λ x. held (x .due) ≡ true) (λ x. NotAfter clock (x .due)) Due (λ x h a. (h, a)) xs dues-held dues-ahead)
             (all-with (λ x. Good (x .packet)) (λ x. dueSoon s x ≡ true) Sent (λ x p d. (p, d)) xs
-            (all-unmapped Good (λ x. x .packet) xs (packets-of (onLinePackets s) (both-r packets moving-packets (fits .packets)) (past .moving)))
+            (all-unmapped Good (λ x. x .packet) xs (packets-of (onLinePackets s) (both-r packets moving-packets (fits .packets)) (pasts .moving)))
             (every-all (dueSoon s) xs soon));
         order = rises;
         free = free-held;
@@ -349,7 +286,7 @@ module _ (s : Simulation) (j : ℕ) (all : steady s ≡ true) (full : Full s) (n
     unfolding totalsFit sumsFit meterBitsFit
     meter-ok =
         record {
-          start = start-of (meterAt s i .«current_start») (at (λ k. meterStartFit s (meterAt s k .«current_start»)) (past .meters));
+          start = start-of (meterAt s i .«current_start») (at (λ k. meterStartFit s (meterAt s k .«current_start»)) (pasts .meters));
           total = at (λ k. totalFit (meterAt s k .«total_time»)) (fits .totals);
           sum = at (λ k. sumFit (meterAt s k .records) (meterAt s k .«rtt_sum»)) (fits .sums);
           bits =
@@ -367,8 +304,8 @@ module _ (s : Simulation) (j : ℕ) (all : steady s ≡ true) (full : Full s) (n
           sent = leb-true (senderAt s i .«packets_sent») 16777216 (both-l few-sent few-acked counts);
           state =
               state-of (s .network .policy) (senderAt s i .«packets_sent») (senderAt s i .state)
-              (at (λ k. heldSender (senderAt s k .state)) (held-times .senders))
-              (at (λ k. startedFit s (senderAt s k .state)) (past .senders))
+              (at (λ k. heldSender (senderAt s k .state)) (helds .senders))
+              (at (λ k. startedFit s (senderAt s k .state)) (pasts .senders))
               (both-r few-sent few-acked counts)
               (at (λ k. heldWindowFit (senderAt s k .state)) (fits .windows))
               (at (λ k. timerFit (s .network .policy) (senderAt s k .state)) (fits .timers))
@@ -376,7 +313,7 @@ module _ (s : Simulation) (j : ℕ) (all : steady s ≡ true) (full : Full s) (n
           toggler-on =
               beq-same (togglerAt s i .enabled) (senderOn (senderAt s i .state))
               (at (λ k. Bool·beq (togglerAt s k .enabled) (senderOn (senderAt s k .state))) (fits .togglers));
-          toggle = holds (held (togglerAt s i .«next_toggle»)) (at (λ k. held (togglerAt s k .«next_toggle»)) (held-times .toggles));
+          toggle = holds (held (togglerAt s i .«next_toggle»)) (at (λ k. held (togglerAt s k .«next_toggle»)) (helds .toggles));
           toggle-ahead = toggle-ahead;
           meter-on =
               sym

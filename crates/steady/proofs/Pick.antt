@@ -37,11 +37,12 @@ use Rattle.remy.specs.declared.simulation.Next.the-variants as Next
 use Rattle.remy.specs.declared.simulation.Simulation.{Simulation}
 use Rattle.remy.specs.State.{Role, link, sender, toggler, nobody, roleOf, noPacket, noTransit, senderAt, togglerAt, meterAt, firstOf, frontOf, queuedAt, waitingItems, onLineItems, withHead, withQueue}
 use Rattle.remy.specs.Queue.{ownTime, nextTimeOf, partOf, headOf, removed, picked}
-use Rattle.remy.specs.Fit.{held, heldQueued, sameTime, rising}
+use Rattle.remy.specs.Fit.{heldQueued, sameTime, rising}
 use Rattle.remy.proofs.Facts.{both-l, both-r, holds}
 use Rattle.remy.proofs.Networks.{fit-network, few-senders, delay-from-zero}
 use Rattle.steady.proofs.Facts.{All, NotAfter, Held, Past, PastIfAny, PacketOk, TransitOk, TimerIfAny, StateOk, MeterOk, Body, sentOf, QueueOk, Between}
 use Rattle.steady.proofs.Lists.{all-map}
+use Rattle.steady.proofs.Full.{full-queue}
 use Rattle.steady.proofs.Roles.{Real, role-at, role-of, part-inside}
 use Rattle.steady.proofs.Ahead.{FromIfAny, Ahead, held-known, queued-ahead, ahead-queued, same-self, same-trans, from-same, from-left, from-right, same-earliest}
 use Rattle.steady.proofs.Requeue.{front-ok, transmit-ahead, deliver-ahead, send-ahead, timer-ahead}
@@ -195,15 +196,7 @@ module _ (s : Simulation) (b : Body s) (t : Time) (ahead : Ahead (s .head .clock
       let c = s .head .clock in
       let waiting = PacketOk (net .senders) (sentOf s) in
       record {
-        full =
-            record {
-              waiting = b .full .waiting;
-              moving = b .full .moving;
-              senders = b .full .senders;
-              togglers = b .full .togglers;
-              meters = b .full .meters;
-              queue = length-set (s .queue) j noQueued ∙ b .full .queue;
-            };
+        full = full-queue s (record { clock = t; next = Next.Part j }) (set (s .queue) j noQueued) (length-set (s .queue) j noQueued ∙ b .full .queue) (b .full);
         network = b .network;
         clock = from-zero;
         held = ahead .held;

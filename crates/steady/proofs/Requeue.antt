@@ -36,6 +36,7 @@ use Rattle.remy.specs.Fit.{held, heldQueued, sameTime}
 use Rattle.remy.proofs.Steps.{cond-elim}
 use Rattle.steady.proofs.Facts.{All, Held, TransitOk, StateOk, TimerIfAny, Body, sentOf, PlaceOk, QueueBut, QueueOk}
 use Rattle.steady.proofs.Lists.{all-first}
+use Rattle.steady.proofs.Full.{full-queue}
 use Rattle.steady.proofs.Roles.{Real, role-at, role-of}
 use Rattle.steady.proofs.Ahead.{Ahead, ahead-queued, same-self, ahead-now, ahead-latest, ahead-earliest}
 
@@ -55,7 +56,7 @@ place-same s s' k c q e p =
     }
 
 -- a store that only the part j reads
-pub part-changes : (j : ℕ) (s s' : Simulation) → s' .network ≡ s .network → s' .head .clock ≡ s .head .clock → s' .queue ≡ s .queue
+part-changes : (j : ℕ) (s s' : Simulation) → s' .network ≡ s .network → s' .head .clock ≡ s .head .clock → s' .queue ≡ s .queue
     → ((role : Role) → (partOf role ≡ j → ⊥) → ownTime s' role ≡ ownTime s role) → QueueBut j s → QueueBut j s'
 part-changes j s s' n c q same but k h other =
     place-same s s' k c (ap (λ (l : List Queued). getD l k noQueued .time) q)
@@ -152,7 +153,7 @@ state-ahead policy sent State.WaitingForEnable clock h ok = record { held = tt; 
 state-ahead policy sent (State.Enabled e) clock h ok =
     ahead-earliest clock (nextSend sent e clock) (e .timer) (send-ahead sent e clock h) (timer-ahead policy clock (e .timer) (ok .timer))
 
-pub own-ahead : (s : Simulation) (role : Role) → Body s → Real (s .network .senders) role → Ahead (s .head .clock) (ownTime s role)
+own-ahead : (s : Simulation) (role : Role) → Body s → Real (s .network .senders) role → Ahead (s .head .clock) (ownTime s role)
 unfolding ownTime nextTick senderNext
 own-ahead s link b r =
     ahead-earliest (s .head .clock) (nextTransmit (s .line) (s .head .clock)) (nextDeliver (s .line) (frontOf s .due)) (transmit-ahead s b) (deliver-ahead s b)
@@ -193,18 +194,11 @@ pub requeued : (s : Simulation) (role : Role) → Body s → Real (s .network .s
 requeued s role b r = requeued-ahead s role (b .full .queue) (own-ahead s role b r) r
 
 -- nothing but the queue itself reads the queue
-pub queued-body : (s : Simulation) (k : ℕ) (x : OptionTime) → Body s → Body (withQueued s k x)
+queued-body : (s : Simulation) (k : ℕ) (x : OptionTime) → Body s → Body (withQueued s k x)
 queued-body s k x b =
+    let queue = set (s .queue) k (record { time = x }) in
     record {
-      full =
-          record {
-            waiting = b .full .waiting;
-            moving = b .full .moving;
-            senders = b .full .senders;
-            togglers = b .full .togglers;
-            meters = b .full .meters;
-            queue = length-set (s .queue) k (record { time = x }) ∙ b .full .queue;
-          };
+      full = full-queue s (s .head) queue (length-set (s .queue) k (record { time = x }) ∙ b .full .queue) (b .full);
       network = b .network;
       clock = b .clock;
       held = b .held;

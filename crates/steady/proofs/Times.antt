@@ -115,7 +115,7 @@ sub-below f x y hi fine t w l =
         let right : m * c * d ≡ m * (c * d) = mul-assoc m c d in
         Nat.le-trans less (rw (left, ← right) order)
 
-pub since-within : (clock t : Time) → Early clock → Past clock t → within (since clock t .0) (power 41)
+since-within : (clock t : Time) → Early clock → Past clock t → within (since clock t .0) (power 41)
 since-within clock t c p =
     sub-below binary64 (clock .0 .0) (t .0 .0) (power 41) (unfold fits in tt) tt (p .low, p .high)
     (le-trans (clock .0 .0) (power 40) (power 41) (c .high) (unfold le in tt))

@@ -84,6 +84,11 @@ ready s role b real q some = record { body = unfold requeue in requeue-body s ro
 but : (s : Simulation) (j : ℕ) → QueueOk s → QueueBut j s
 but s j q k h apart = q k h
 
+-- a loose packet is so after a requeue too
+loose-requeued : (s : Simulation) (role : Role) (p : Packet) → Loose s p → Loose (requeue s role) p
+unfolding requeue
+loose-requeued s role p l = record { packet = l .packet; room = l .room }
+
 -- ---- a packet that starts, or does not: the line alone changes
 
 module _ (s : Simulation) (b : Body s) (early : Early (s .head .clock)) where
@@ -174,11 +179,6 @@ module _ (s : Simulation) (b : Between 0 s) (early : Early (s .head .clock)) whe
         (refused (Left.Lost (frontOf s .packet)) (departed (s .line)))
         (λ body stay. land (requeue (started gone) link) (link-ready (started gone) refl refl refl refl refl body))
 
-    -- a packet that left is loose after the requeue too
-    loose-requeued : (m : Simulation) (p : Packet) → Loose m p → Loose (requeue m link) p
-    unfolding requeue
-    loose-requeued m p l = record { packet = l .packet; room = l .room }
-
     comes : OnMoves LandedBy
         (outcomeWith link
         (linkWith s (record { left = Left.Out (frontOf s .packet); line = departed (s .line) })
@@ -189,11 +189,11 @@ module _ (s : Simulation) (b : Between 0 s) (early : Early (s .head .clock)) whe
         let loose : Loose gone p = leave-loose s (b .body) e in
         transmit-elim gone gone-body early (λ (t : Transmitted). OnMoves LandedBy (outcomeWith link (linkWith s (record { left = Left.Out p; line = departed (s .line) }) t)))
         (let k = link-ready gone refl refl refl refl refl gone-body in
-        lands (deliver (recordAt s link Mark.None (named p) Name.None) (requeue gone link) (returns p)) (back (requeue gone link) (k .body) (k .queue) (unfold requeue in early) (recordAt s link Mark.None (named p) Name.None) p (loose-requeued gone p loose)))
+        lands (deliver (recordAt s link Mark.None (named p) Name.None) (requeue gone link) (returns p)) (back (requeue gone link) (k .body) (k .queue) (unfold requeue in early) (recordAt s link Mark.None (named p) Name.None) p (loose-requeued gone link p loose)))
         (refused (Left.Out p) (departed (s .line)))
         (λ body stay.
         let k = link-ready (started gone) refl refl refl refl refl body in
-        lands (deliver (recordAt s link Mark.None (named p) (named (firstOf s))) (requeue (started gone) link) (returns p)) (back (requeue (started gone) link) (k .body) (k .queue) (unfold requeue in early) (recordAt s link Mark.None (named p) (named (firstOf s))) p (loose-requeued (started gone) p (stay p loose))))
+        lands (deliver (recordAt s link Mark.None (named p) (named (firstOf s))) (requeue (started gone) link) (returns p)) (back (requeue (started gone) link) (k .body) (k .queue) (unfold requeue in early) (recordAt s link Mark.None (named p) (named (firstOf s))) p (loose-requeued (started gone) link p (stay p loose))))
 
   link-lands : OnMoves LandedBy (outcomeOf s link)
   unfolding outcomeOf actsOf linkActs tryDeliver
@@ -232,10 +232,6 @@ module _ (s : Simulation) (i : ℕ) (h : i < s .network .senders) (b : Between (
       ready m link (arrive-body st (k .body) p l room) tt (line-changes st m refl refl refl refl refl (but st 0 (k .queue))) (k .some)))
       (λ over. ready st link (k .body) tt (but st 0 (k .queue)) (k .some))
 
-  loose-queued : (m : Simulation) (p : Packet) → Loose m p → Loose (requeue m (sender i)) p
-  unfolding requeue
-  loose-queued m p l = record { packet = l .packet; room = l .room }
-
   turn-with : (x : SenderState) → senderAt s i .state ≡ x → OnMoves LandedBy (outcomeWith (sender i) (senderWith s i x))
   turn-with State.WaitingForEnable q = tt
   turn-with (State.Enabled e) q =
@@ -265,7 +261,7 @@ module _ (s : Simulation) (i : ℕ) (h : i < s .network .senders) (b : Between (
       let st = requeue (withSender s i x) (sender i) in
       let r = recordAt s (sender i) Mark.None (named (u .packet)) Name.None in
       lands (deliver r st (arrives (u .packet)))
-      (arrival st r (u .packet) (sender-ready x (send-body s (b .body) early i h e q zero-is)) (loose-queued (withSender s i x) (u .packet) (send-loose s (b .body) early i h e q zero-is))))
+      (arrival st r (u .packet) (sender-ready x (send-body s (b .body) early i h e q zero-is)) (loose-requeued (withSender s i x) (sender i) (u .packet) (send-loose s (b .body) early i h e q zero-is))))
       (λ z. on-stopped LandedBy (sender i) s (u .number) z))
 
   sender-lands : OnMoves LandedBy (outcomeOf s (sender i))
