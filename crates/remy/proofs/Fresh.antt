@@ -1,13 +1,13 @@
 -- A built simulation is fit, whatever the network and the seed are. A build that is refused gives the empty simulation, so this holds of it too.
 -- A network's floats may be any, also those that no 64 bits hold. Assumes nothing.
 use mathlib.Core.Path.{_≡_, refl, sym, ap, ap₂, _∙_, subst}
-use mathlib.Core.Bool.{Bool, true, false, not, _&&_, _||_, cond}
+use mathlib.Core.Bool.{Bool, true, false, not, _&&_, _||_}
 use mathlib.Core.List.{List, [], _∷_}
-use Prim.Native.Nat.{ℕ, zero, suc, _+_, _-_, _/_, _%_, _≤_, _<_}
+use Prim.Native.Nat.{ℕ, zero, suc, _+_, _/_, _≤_, _<_}
 use native.Mathlib.Nat.{zero-add, add-zero, zero-mul}
 use native.Mathlib.Omega.{arith}
-use borrow.Author.Tests.{ltb-true, eqb-true, eqb-false}
-use lib.Dec.{T, ltb, eqb}
+use borrow.Author.Tests.{eqb-true, eqb-false}
+use lib.Dec.{T, eqb}
 use lib.Ieee.{Float, binary64, add, mul, ofInt, lt, le, eq}
 use lib.Ieee.Bits.{is-true}
 use lib.ListN.{length, getD, set, replicate, length-set, getD-replicate}
@@ -41,12 +41,13 @@ use Rattle.remy.specs.declared.simulation.Simulation.{Simulation}
 use Rattle.remy.specs.declared.simulation.Built.{Built}
 use Rattle.remy.specs.Network.{timesFit, networkStop}
 use Rattle.remy.specs.State.{Role, link, sender, toggler, nobody, roleOf, noSender, noToggler, noMeter, senderAt, togglerAt, meterAt, queuedAt, withHead, withQueue}
-use Rattle.remy.specs.Queue.{ownTime, nextTimeOf, headOf, removed, picked}
+use Rattle.remy.specs.Queue.{ownTime, nextTimeOf, partOf, headOf, removed, picked}
 use Rattle.remy.specs.Build.{newLine, newSender, Parts, noParts, populate, unqueued, ownTimes, queuedAll, notBuilt, buildFrom, buildOf}
 use Rattle.remy.specs.Fit.{upTo, eachSender, held, heldIfAny, isIdle, heldSender, heldQueued, isNext, startedFit, meterStartFit, sameTime, nextFit, networkFit, ringsFit, packetsFit, bitsFit, clockFit, heldTimesFit, pastFit, totalsFit, sumsFit, recordsFit, dueFit, countsFit, windowsFit, timersFit, togglersAgree, metersAgree, meterBitsFit, queueFit, fit}
 use Rattle.remy.proofs.Facts.{both-l, both-r, holds}
 use Rattle.remy.proofs.Networks.{fit-network, few-senders}
 use Rattle.remy.proofs.Steps.{cond-elim}
+use Rattle.remy.proofs.Roles.{Real, role-at}
 use Rattle.remy.proofs.Empty.{empty-fit}
 
 -- ---- tests
@@ -70,13 +71,13 @@ fit-intro s a b c d e f g h i j k l m n o p q r = rw (a, b, c, d, e, f, g, h, i,
 -- what holds of the link, of each sender and each toggler below n, and of nobody, holds of every part's role
 pub role-elim : (P : Role → Type 0) (n k : ℕ) → P link → ((i : ℕ) → i < n → P (sender i)) → ((i : ℕ) → i < n → P (toggler i)) → P nobody
     → P (roleOf n k)
-unfolding roleOf
-role-elim P n k a b c d =
-    let i = (k - 1) / 2 in
-    cond-elim P (eqb k 0) link (cond (ltb i n) (cond (eqb (k % 2) 1) (sender i) (toggler i)) nobody) (λ z. a)
-    (λ z. cond-elim P (ltb i n) (cond (eqb (k % 2) 1) (sender i) (toggler i)) nobody
-    (λ l. cond-elim P (eqb (k % 2) 1) (sender i) (toggler i) (λ o. b i (ltb-true i n l)) (λ o. c i (ltb-true i n l)))
-    (λ l. d))
+role-elim P n k a b c d = role-at P n k at d
+  where
+    at : (role : Role) → Real n role → k ≡ partOf role → P role
+    at link r e = a
+    at (sender i) r e = b i r
+    at (toggler i) r e = c i r
+    at nobody r e = absurd r
 
 -- ---- draws are in 0..2^20
 
@@ -109,13 +110,13 @@ redraw-within (suc tries) d h g =
 -- ---- the parts as they are made
 
 -- a sender that is off and has sent nothing
-abbrev Off : LossySender → Type 0
+abbrev pub Off : LossySender → Type 0
 Off x = x ≡ newSender (x .rng)
 
 -- a toggler that is off, with a toggle in 0..2^20
-record Waits (t : Toggler) : Type 0 where
-  off : t .enabled ≡ false
-  soon : within (t .«next_toggle» .0 .0) (power 20)
+pub record Waits (t : Toggler) : Type 0 where
+  pub off : t .enabled ≡ false
+  pub soon : within (t .«next_toggle» .0 .0) (power 20)
 
 -- the first toggle is 0 + a draw
 sum-within : (x : Float) → within x (power 20) → within (add binary64 zeroF x) (power 20)
@@ -130,12 +131,12 @@ new-toggler g d h =
     (λ t. record { off = refl; soon = zero-within })
 
 -- every element has P
-abbrev All : {A : Type 0} → (A → Type 0) → List A → Type 0
+abbrev pub All : {A : Type 0} → (A → Type 0) → List A → Type 0
 All P [] = Unit {0}
 All P (x ∷ l) = P x × All P l
 
 -- so has each of 16
-abbrev Filled : {A : Type 0} → (A → Type 0) → List A → Type 0
+abbrev pub Filled : {A : Type 0} → (A → Type 0) → List A → Type 0
 Filled P l = (length l ≡ 16) × All P l
 
 module _ {A : Type 0} (P : A → Type 0) where
@@ -159,16 +160,16 @@ module _ {A : Type 0} (P : A → Type 0) where
   filled-at : (l : List A) (i : ℕ) (d : A) → i < 16 → Filled P l → P (getD l i d)
   filled-at l i d k h = all-at l i d (omega (arith, h .0)) (h .1)
 
-record New (parts : Parts) : Type 0 where
-  senders : Filled Off (parts .senders)
-  togglers : Filled Waits (parts .togglers)
+pub record New (parts : Parts) : Type 0 where
+  pub senders : Filled Off (parts .senders)
+  pub togglers : Filled Waits (parts .togglers)
 
-no-parts : New noParts
+pub no-parts : New noParts
 no-parts =
     record { senders = (refl, all-replicate Off 16 _ refl); togglers = (refl, all-replicate Waits 16 _ (record { off = refl; soon = zero-within })) }
 
 -- Whether a draw was spent or not, every part is new.
-populate-new : (left i : ℕ) (root : Rng) (d : ContinuousDistribution) (parts : Parts) → timesFit d ≡ true → New parts → New (populate left i root d parts)
+pub populate-new : (left i : ℕ) (root : Rng) (d : ContinuousDistribution) (parts : Parts) → timesFit d ≡ true → New parts → New (populate left i root d parts)
 unfolding populate
 populate-new zero i root d parts h w = w
 populate-new (suc left) i root d parts h w =
@@ -325,7 +326,7 @@ abbrev Soon : OptionTime → Type 0
 Soon None = Unit {0}
 Soon (Some t) = within (t .0 .0) (power 20)
 
-times-length : (s : Simulation) (left k : ℕ) → length (ownTimes s left k) ≡ left
+pub times-length : (s : Simulation) (left k : ℕ) → length (ownTimes s left k) ≡ left
 unfolding ownTimes
 times-length s zero k = refl
 times-length s (suc left) k = ap suc (times-length s left (k + 1))

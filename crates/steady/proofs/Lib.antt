@@ -1,7 +1,6 @@
 -- Steady is kept: the facts of a steady state by parts, what each step of a tick keeps of them, and every turn.
 pub mod Facts
 pub mod Lists
-pub mod Roles
 pub mod Ahead
 pub mod Clauses
 pub mod Open

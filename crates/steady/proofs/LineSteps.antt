@@ -30,7 +30,8 @@ use Rattle.remy.proofs.Lists.{map-append, bits-append}
 use Rattle.remy.proofs.Facts.{both-l, both-r, both-i, range-low, range-high}
 use Rattle.remy.proofs.Networks.{FitNetwork, fit-network, some-bits, few-bits, sending-from-zero}
 use Rattle.remy.proofs.Steps.{cond-elim}
-use Rattle.steady.proofs.Facts.{All, NotAfter, PacketOk, TransitOk, LineOk, sentOf, Body, Loose}
+use Rattle.remy.proofs.Fresh.{All}
+use Rattle.steady.proofs.Facts.{NotAfter, PacketOk, TransitOk, LineOk, sentOf, Body, Loose}
 use Rattle.steady.proofs.Lists.{all-append, all-map, count-append}
 use Rattle.steady.proofs.Times.{Early, short, new-held, new-ahead}
 

@@ -8,7 +8,7 @@ use lib.Dec.{eqb}
 use Rattle.components.specs.declared.packet.Packet.{Packet}
 use Rattle.remy.specs.Fit.{every, countOf}
 use Rattle.remy.proofs.Facts.{both-l, both-r, both-i}
-use Rattle.steady.proofs.Facts.{All}
+use Rattle.remy.proofs.Fresh.{All}
 
 module _ {A : Type 0} (P : A → Type 0) where
   pub all-first : (x : A) (xs : List A) → All P (x ∷ xs) → P x

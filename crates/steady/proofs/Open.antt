@@ -35,11 +35,12 @@ use Rattle.remy.specs.Fit.{every, upTo, eachSender, packetFit, held, heldIfAny,
 use Rattle.remy.proofs.Facts.{both-l, both-r, holds, range-low, range-high, between-low, between-high, upTo-at, FitState, fit-state}
 use Rattle.remy.proofs.Networks.{fit-network, few-senders}
 use Rattle.remy.proofs.Steps.{cond-elim}
+use Rattle.remy.proofs.Roles.{Real, role-of, part-inside}
+use Rattle.remy.proofs.Fresh.{All}
 use Rattle.steady.specs.Steady.{dueSoon, steady, Full}
-use Rattle.steady.proofs.Facts.{All, NotAfter, Held, Past, PastIfAny, PacketOk, TransitOk, LineOk, TimerIfAny, StateOk, MeterOk, PartOk, sentOf, Body, QueueBut, Between}
+use Rattle.steady.proofs.Facts.{NotAfter, Held, Past, PastIfAny, PacketOk, TransitOk, LineOk, TimerIfAny, StateOk, MeterOk, PartOk, sentOf, Body, QueueBut, Between}
 use Rattle.steady.proofs.Clauses.{HeldTimes, held-times, PastTimes, past-times}
 use Rattle.steady.proofs.Lists.{all-with, every-all, all-unmapped}
-use Rattle.steady.proofs.Roles.{Real, role-of, part-inside}
 use Rattle.steady.proofs.Ahead.{HeldIfAny, FromIfAny, ahead-now, ahead-latest, queued-ahead, from-same, from-right}
 
 -- ---- tests

@@ -40,10 +40,11 @@ use Rattle.remy.specs.Queue.{ownTime, nextTimeOf, partOf, headOf, removed, pick
 use Rattle.remy.specs.Fit.{heldQueued, sameTime, rising}
 use Rattle.remy.proofs.Facts.{both-l, both-r, holds}
 use Rattle.remy.proofs.Networks.{fit-network, few-senders, delay-from-zero}
-use Rattle.steady.proofs.Facts.{All, NotAfter, Held, Past, PastIfAny, PacketOk, TransitOk, TimerIfAny, StateOk, MeterOk, Body, sentOf, QueueOk, Between}
+use Rattle.remy.proofs.Roles.{Real, role-at, role-of, part-inside}
+use Rattle.remy.proofs.Fresh.{All}
+use Rattle.steady.proofs.Facts.{NotAfter, Held, Past, PastIfAny, PacketOk, TransitOk, TimerIfAny, StateOk, MeterOk, Body, sentOf, QueueOk, Between}
 use Rattle.steady.proofs.Lists.{all-map}
 use Rattle.steady.proofs.Full.{full-queue}
-use Rattle.steady.proofs.Roles.{Real, role-at, role-of, part-inside}
 use Rattle.steady.proofs.Ahead.{FromIfAny, Ahead, held-known, queued-ahead, ahead-queued, same-self, same-trans, from-same, from-left, from-right, same-earliest}
 use Rattle.steady.proofs.Requeue.{front-ok, transmit-ahead, deliver-ahead, send-ahead, timer-ahead}
 

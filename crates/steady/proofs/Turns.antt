@@ -43,8 +43,8 @@ use Rattle.remy.specs.Tick.{named, recordAt, arrives, returns, switches, Acted,
 use Rattle.remy.proofs.Steps.{cond-elim}
 use Rattle.remy.proofs.Parts.{new-is}
 use Rattle.remy.proofs.Outcomes.{OnMoves, on-stopped}
+use Rattle.remy.proofs.Roles.{Real, role-at}
 use Rattle.steady.proofs.Facts.{Body, Loose, QueueBut, QueueOk, Between}
-use Rattle.steady.proofs.Roles.{Real, role-at}
 use Rattle.steady.proofs.Requeue.{line-changes, sender-changes, toggler-changes, meter-changes, requeued-ahead, requeued, requeue-body}
 use Rattle.steady.proofs.Pick.{some-senders, picked-between}
 use Rattle.steady.proofs.Times.{Early}
