@@ -1,8 +1,8 @@
 -- What the fit test says where it passes: each clause by name, and at each sender. Assumes nothing.
-use mathlib.Core.Path.{_≡_, refl, sym, ap, subst, _∙_}
-use mathlib.Core.Bool.{Bool, true, false, not, _&&_, _||_, true≢false, false≢true}
-use mathlib.Core.List.{List, [], _∷_}
-use Prim.Native.Nat.{ℕ, zero, suc, _+_, _≤_, _<_}
+use mathlib.Core.Path.{_≡_, refl, sym, subst}
+use mathlib.Core.Bool.{Bool, true, false, _&&_, false≢true}
+use mathlib.Core.List.{List, _∷_}
+use Prim.Native.Nat.{ℕ, zero, suc, _≤_, _<_}
 use native.Mathlib.Nat.{not-suc-le-zero, eq-or-lt-of-le, le-of-suc-le-suc}
 use mathlib.Core.Logic.{inl, inr}
 use borrow.Author.Tests.{leb-true}
@@ -27,14 +27,18 @@ both-r false b e = absurd (false≢true e)
 pub both-i : (a b : Bool) → a ≡ true → b ≡ true → (a && b) ≡ true
 both-i a b e f = rw (e, f)
 
+-- a test that gave true passed
+pub holds : (b : Bool) → b ≡ true → T b
+holds b e = subst T (sym e) tt
+
 -- ---- ranges
 
 module _ (lo hi x : Float) where
   pub range-low : inRange lo hi x ≡ true → T (le lo x)
-  range-low e = subst T (sym (both-l (le lo x) (le x hi) e)) tt
+  range-low e = holds (le lo x) (both-l (le lo x) (le x hi) e)
 
   pub range-high : inRange lo hi x ≡ true → T (le x hi)
-  range-high e = subst T (sym (both-r (le lo x) (le x hi) e)) tt
+  range-high e = holds (le x hi) (both-r (le lo x) (le x hi) e)
 
   pub range-i : T (le lo x) → T (le x hi) → inRange lo hi x ≡ true
   range-i a b = both-i (le lo x) (le x hi) (is-true (le lo x) a) (is-true (le x hi) b)

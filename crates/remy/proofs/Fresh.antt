@@ -1,16 +1,15 @@
 -- A built simulation is fit, whatever the network and the seed are. A build that is refused gives the empty simulation, so this holds of it too.
 -- A network's floats may be any, also those that no 64 bits hold. Assumes nothing.
 use mathlib.Core.Path.{_≡_, refl, sym, ap, ap₂, _∙_, subst}
-use mathlib.Core.Bool.{Bool, true, false, not, _&&_, _||_, cond}
+use mathlib.Core.Bool.{Bool, true, false, not, _&&_, _||_}
 use mathlib.Core.List.{List, [], _∷_}
-use Prim.Native.Nat.{ℕ, zero, suc, _+_, _-_, _/_, _%_, _≤_, _<_}
+use Prim.Native.Nat.{ℕ, zero, suc, _+_, _/_, _≤_, _<_}
 use native.Mathlib.Nat.{zero-add, add-zero, zero-mul}
 use native.Mathlib.Omega.{arith}
-use borrow.Author.Tests.{eqb-false}
-use lib.Dec.{T, ltb, eqb, leb, leb→le, ltb→lt, eqb→eq}
+use borrow.Author.Tests.{eqb-true, eqb-false}
+use lib.Dec.{T, eqb}
 use lib.Ieee.{Float, binary64, add, mul, ofInt, lt, le, eq}
 use lib.Ieee.Bits.{is-true}
-use lib.Ieee.Fits.{and-l, and-r}
 use lib.ListN.{length, getD, set, replicate, length-set, getD-replicate}
 use lib.Seq.{getD-set-other}
 use Rattle.quantities.proofs.Order.{lt→le, le-trans, le-known-l, eq-refl}
@@ -40,22 +39,21 @@ use Rattle.remy.specs.declared.network.RemyNetwork.{RemyNetwork}
 use Rattle.remy.specs.declared.simulation.Head.{Head}
 use Rattle.remy.specs.declared.simulation.Simulation.{Simulation}
 use Rattle.remy.specs.declared.simulation.Built.{Built}
-use Rattle.remy.specs.Network.{delayFit, rateFit, lossFit, limitFit, sizesFit, between, timesFit, networkStop}
+use Rattle.remy.specs.Network.{timesFit, networkStop}
 use Rattle.remy.specs.State.{Role, link, sender, toggler, nobody, roleOf, noSender, noToggler, noMeter, senderAt, togglerAt, meterAt, queuedAt, withHead, withQueue}
-use Rattle.remy.specs.Queue.{ownTime, nextTimeOf, headOf, removed, picked}
+use Rattle.remy.specs.Queue.{ownTime, nextTimeOf, partOf, headOf, removed, picked}
 use Rattle.remy.specs.Build.{newLine, newSender, Parts, noParts, populate, unqueued, ownTimes, queuedAll, notBuilt, buildFrom, buildOf}
 use Rattle.remy.specs.Fit.{upTo, eachSender, held, heldIfAny, isIdle, heldSender, heldQueued, isNext, startedFit, meterStartFit, sameTime, nextFit, networkFit, ringsFit, packetsFit, bitsFit, clockFit, heldTimesFit, pastFit, totalsFit, sumsFit, recordsFit, dueFit, countsFit, windowsFit, timersFit, togglersAgree, metersAgree, meterBitsFit, queueFit, fit}
+use Rattle.remy.proofs.Facts.{both-l, both-r, holds}
+use Rattle.remy.proofs.Networks.{fit-network, few-senders}
+use Rattle.remy.proofs.Steps.{cond-elim}
+use Rattle.remy.proofs.Roles.{Real, role-at}
 use Rattle.remy.proofs.Empty.{empty-fit}
 
 -- ---- tests
 
--- What holds of both sides holds of the one chosen. The first side may use that the test passed.
-either : {A : Type 0} (P : A → Type 0) (b : Bool) (x y : A) → (T b → P x) → P y → P (cond b x y)
-either P true x y p q = p tt
-either P false x y p q = q
-
 -- the second of two tests is needed only where the first fails
-or-else : (a b : Bool) → (a ≡ false → b ≡ true) → (a || b) ≡ true
+pub or-else : (a b : Bool) → (a ≡ false → b ≡ true) → (a || b) ≡ true
 or-else true b h = refl
 or-else false b h = h refl
 
@@ -73,38 +71,13 @@ fit-intro s a b c d e f g h i j k l m n o p q r = rw (a, b, c, d, e, f, g, h, i,
 -- what holds of the link, of each sender and each toggler below n, and of nobody, holds of every part's role
 pub role-elim : (P : Role → Type 0) (n k : ℕ) → P link → ((i : ℕ) → i < n → P (sender i)) → ((i : ℕ) → i < n → P (toggler i)) → P nobody
     → P (roleOf n k)
-unfolding roleOf
-role-elim P n k a b c d =
-    let i = (k - 1) / 2 in
-    either P (eqb k 0) link (cond (ltb i n) (cond (eqb (k % 2) 1) (sender i) (toggler i)) nobody) (λ t. a)
-    (either P (ltb i n) (cond (eqb (k % 2) 1) (sender i) (toggler i)) nobody
-    (λ t. either P (eqb (k % 2) 1) (sender i) (toggler i) (λ o. b i (ltb→lt i n t)) (c i (ltb→lt i n t)))
-    d)
-
--- ---- what a network that is not refused has
-
--- where the number is 0, the test passed
-passed : (b : Bool) (x k : ℕ) → cond b x (suc k) ≡ 0 → T b × (x ≡ 0)
-passed true x k e = (tt, e)
-passed false x k e = absurd (omega arith)
-
-record Admitted (n : RemyNetwork) : Type 0 where
-  few : n .senders ≤ 16
-  off : T (timesFit (n .off))
-
-admitted : (n : RemyNetwork) → networkStop n ≡ 0 → Admitted n
-unfolding networkStop
-admitted n e =
-    let a = passed (delayFit (n .delay)) _ 0 e in
-    let b = passed (rateFit (n .rate)) _ 1 (a .1) in
-    let c = passed (lossFit (n .loss)) _ 2 (b .1) in
-    let d = passed (limitFit (n .limit)) _ 3 (c .1) in
-    let f = passed (sizesFit (n .bits) (n .senders)) _ 4 (d .1) in
-    let g = passed (timesFit (n .on) && timesFit (n .off)) _ 5 (f .1) in
-    record {
-      few = leb→le (n .senders) 16 (and-r (between 1 16777216 (n .bits)) (leb (n .senders) 16) (f .0));
-      off = and-r (timesFit (n .on)) (timesFit (n .off)) (g .0);
-    }
+role-elim P n k a b c d = role-at P n k at d
+  where
+    at : (role : Role) → Real n role → k ≡ partOf role → P role
+    at link r e = a
+    at (sender i) r e = b i r
+    at (toggler i) r e = c i r
+    at nobody r e = absurd r
 
 -- ---- draws are in 0..2^20
 
@@ -117,52 +90,53 @@ unit-within : (g : Rng) → within (unitOf g .value) (power 0)
 unfolding unitOf sampleOf outputOf
 unit-within g = sample-within (outputOf g / 4096) (omega arith)
 
-draw-within : (d : ContinuousDistribution) → T (timesFit d) → (g : Rng) → within (drawOf d g .value) (power 20)
+draw-within : (d : ContinuousDistribution) → timesFit d ≡ true → (g : Rng) → within (drawOf d g .value) (power 20)
 unfolding drawOf uniformOf
-draw-within (Always v) h g = (lt→le zeroF v (and-l (lt zeroF v) (le v (power 20)) h), and-r (lt zeroF v) (le v (power 20)) h)
+draw-within (Always v) h g = (lt→le zeroF v (holds (lt zeroF v) (both-l (lt zeroF v) (le v (power 20)) h)), holds (le v (power 20)) (both-r (lt zeroF v) (le v (power 20)) h))
 draw-within (Uniform lo hi) h g =
-    let ends = and-l (le zeroF lo && lt lo hi) (le hi (power 20)) h in
-    draw-fine (unitOf g .value) lo hi (unit-within g) (and-l (le zeroF lo) (lt lo hi) ends, lt→le lo hi (and-r (le zeroF lo) (lt lo hi) ends))
-    (and-r (le zeroF lo && lt lo hi) (le hi (power 20)) h) .1
+    let ends = both-l (le zeroF lo && lt lo hi) (le hi (power 20)) h in
+    draw-fine (unitOf g .value) lo hi (unit-within g)
+    (holds (le zeroF lo) (both-l (le zeroF lo) (lt lo hi) ends), lt→le lo hi (holds (lt lo hi) (both-r (le zeroF lo) (lt lo hi) ends)))
+    (holds (le hi (power 20)) (both-r (le zeroF lo && lt lo hi) (le hi (power 20)) h)) .1
 
 -- a draw that is spent has the value 0
-redraw-within : (tries : ℕ) (d : ContinuousDistribution) → T (timesFit d) → (g : Rng) → within (redraw tries d g .value) (power 20)
+pub redraw-within : (tries : ℕ) (d : ContinuousDistribution) → timesFit d ≡ true → (g : Rng) → within (redraw tries d g .value) (power 20)
 unfolding redraw
 redraw-within zero d h g = zero-within
 redraw-within (suc tries) d h g =
     let s = drawOf d g in
-    either (λ (x : PositiveDraw). within (x .value) (power 20)) (lt zeroF (s .value)) _ _ (λ t. draw-within d h g) (redraw-within tries d h (s .rng))
+    cond-elim (λ (x : PositiveDraw). within (x .value) (power 20)) (lt zeroF (s .value)) _ _ (λ t. draw-within d h g) (λ t. redraw-within tries d h (s .rng))
 
 -- ---- the parts as they are made
 
 -- a sender that is off and has sent nothing
-abbrev Off : LossySender → Type 0
+abbrev pub Off : LossySender → Type 0
 Off x = x ≡ newSender (x .rng)
 
 -- a toggler that is off, with a toggle in 0..2^20
-record Waits (t : Toggler) : Type 0 where
-  off : t .enabled ≡ false
-  soon : within (t .«next_toggle» .0 .0) (power 20)
+pub record Waits (t : Toggler) : Type 0 where
+  pub off : t .enabled ≡ false
+  pub soon : within (t .«next_toggle» .0 .0) (power 20)
 
 -- the first toggle is 0 + a draw
 sum-within : (x : Float) → within x (power 20) → within (add binary64 zeroF x) (power 20)
 unfolding le add
 sum-within x w = add-within binary64 zeroF zeroF x (power 20) (power 20) (tt, tt) w tt tt tt tt .1
 
-new-toggler : (g : Rng) (d : ContinuousDistribution) → T (timesFit d) → Waits (newToggler g d .toggler)
+new-toggler : (g : Rng) (d : ContinuousDistribution) → timesFit d ≡ true → Waits (newToggler g d .toggler)
 unfolding newToggler
 new-toggler g d h =
-    either (λ (x : Toggled). Waits (x .toggler)) (eqb (positiveOf d g .number) 0) _ _
+    cond-elim (λ (x : Toggled). Waits (x .toggler)) (eqb (positiveOf d g .number) 0) _ _
     (λ t. record { off = refl; soon = sum-within (positiveOf d g .value) (redraw-within 8 d h g) })
-    (record { off = refl; soon = zero-within })
+    (λ t. record { off = refl; soon = zero-within })
 
 -- every element has P
-abbrev All : {A : Type 0} → (A → Type 0) → List A → Type 0
+abbrev pub All : {A : Type 0} → (A → Type 0) → List A → Type 0
 All P [] = Unit {0}
 All P (x ∷ l) = P x × All P l
 
 -- so has each of 16
-abbrev Filled : {A : Type 0} → (A → Type 0) → List A → Type 0
+abbrev pub Filled : {A : Type 0} → (A → Type 0) → List A → Type 0
 Filled P l = (length l ≡ 16) × All P l
 
 module _ {A : Type 0} (P : A → Type 0) where
@@ -186,16 +160,16 @@ module _ {A : Type 0} (P : A → Type 0) where
   filled-at : (l : List A) (i : ℕ) (d : A) → i < 16 → Filled P l → P (getD l i d)
   filled-at l i d k h = all-at l i d (omega (arith, h .0)) (h .1)
 
-record New (parts : Parts) : Type 0 where
-  senders : Filled Off (parts .senders)
-  togglers : Filled Waits (parts .togglers)
+pub record New (parts : Parts) : Type 0 where
+  pub senders : Filled Off (parts .senders)
+  pub togglers : Filled Waits (parts .togglers)
 
-no-parts : New noParts
+pub no-parts : New noParts
 no-parts =
     record { senders = (refl, all-replicate Off 16 _ refl); togglers = (refl, all-replicate Waits 16 _ (record { off = refl; soon = zero-within })) }
 
 -- Whether a draw was spent or not, every part is new.
-populate-new : (left i : ℕ) (root : Rng) (d : ContinuousDistribution) (parts : Parts) → T (timesFit d) → New parts → New (populate left i root d parts)
+pub populate-new : (left i : ℕ) (root : Rng) (d : ContinuousDistribution) (parts : Parts) → timesFit d ≡ true → New parts → New (populate left i root d parts)
 unfolding populate
 populate-new zero i root d parts h w = w
 populate-new (suc left) i root d parts h w =
@@ -208,7 +182,7 @@ populate-new (suc left) i root d parts h w =
       senders = filled-set Off (parts .senders) i (newSender (c .child)) refl (w .senders);
       togglers = filled-set Waits (parts .togglers) i (t .toggler) (new-toggler (e .child) d h) (w .togglers);
     } in
-    either New (eqb (t .number) 0) (populate left (i + 1) (e .parent) d more) more (λ z. populate-new left (i + 1) (e .parent) d more h w') w'
+    cond-elim New (eqb (t .number) 0) (populate left (i + 1) (e .parent) d more) more (λ z. populate-new left (i + 1) (e .parent) d more h w') (λ z. w')
 
 -- ---- a state in which nothing has happened, whatever its head and its queue are
 
@@ -222,7 +196,7 @@ record Blank (s : Simulation) : Type 0 where
 
 unqueued-blank : (n : RemyNetwork) (g : Rng) (parts : Parts) → networkStop n ≡ 0 → New parts → Blank (unqueued n g parts)
 unqueued-blank n g parts e w =
-    let few : n .senders ≤ 16 = admitted n e .few in
+    let few : n .senders ≤ 16 = few-senders (fit-network n e) in
     record {
       network = e;
       words = g;
@@ -352,7 +326,7 @@ abbrev Soon : OptionTime → Type 0
 Soon None = Unit {0}
 Soon (Some t) = within (t .0 .0) (power 20)
 
-times-length : (s : Simulation) (left k : ℕ) → length (ownTimes s left k) ≡ left
+pub times-length : (s : Simulation) (left k : ℕ) → length (ownTimes s left k) ≡ left
 unfolding ownTimes
 times-length s zero k = refl
 times-length s (suc left) k = ap suc (times-length s left (k + 1))
@@ -475,9 +449,10 @@ fresh-fit n seed =
     let Fit : Built → Type 0 = λ x. fit (x .simulation) ≡ true in
     let c = childOf (fromSeed seed) in
     let parts = populate (n .senders) 0 (c .parent) (n .off) noParts in
-    either Fit (eqb (networkStop n) 0) (buildFrom n (c .child) parts) (notBuilt (networkStop n))
+    cond-elim Fit (eqb (networkStop n) 0) (buildFrom n (c .child) parts) (notBuilt (networkStop n))
     (λ t.
-    let e = eqb→eq (networkStop n) 0 t in
-    let new = populate-new (n .senders) 0 (c .parent) (n .off) noParts (admitted n e .off) no-parts in
-    either Fit (eqb (parts .number) 0) _ (notBuilt (parts .number)) (λ z. fit-picked _ (unqueued-blank n (c .child) parts e new)) empty-fit)
-    empty-fit
+    let e = eqb-true (networkStop n) 0 t in
+    let off = both-r (timesFit (n .on)) (timesFit (n .off)) (fit-network n e .times) in
+    let new = populate-new (n .senders) 0 (c .parent) (n .off) noParts off no-parts in
+    cond-elim Fit (eqb (parts .number) 0) _ (notBuilt (parts .number)) (λ z. fit-picked _ (unqueued-blank n (c .child) parts e new)) (λ z. empty-fit))
+    (λ t. empty-fit)

@@ -10,6 +10,7 @@ pub mod Taken
 pub mod Kept
 pub mod Front
 pub mod Steps
+pub mod Roles
 pub mod Parts
 pub mod Outcomes
 pub mod Turns

@@ -109,7 +109,7 @@ draw-positive (suc n) d g e = by (lt zeroF (drawOf d g .value)) refl (draw-posit
 
 -- ---- a meter that is switched keeps its records
 
-turned-records : (m : AverageFlowMeter) (o : OptionTime) (t : Time) → turned m o t .records ≡ m .records
+pub turned-records : (m : AverageFlowMeter) (o : OptionTime) (t : Time) → turned m o t .records ≡ m .records
 turned-records m None t = refl
 turned-records m (Some u) t = refl
 

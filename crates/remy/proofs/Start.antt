@@ -51,7 +51,7 @@ all-same P x d p q zero i = q
 all-same P x d p q (suc n) zero = p
 all-same P x d p q (suc n) (suc i) = all-same P x d p q n i
 
-same-length : {A : Type 0} (x : A) (n : ℕ) → length (replicate n x) ≡ n
+pub same-length : {A : Type 0} (x : A) (n : ℕ) → length (replicate n x) ≡ n
 same-length x zero = refl
 same-length x (suc n) = ap suc (same-length x n)
 

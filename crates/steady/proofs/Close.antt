@@ -20,22 +20,16 @@ use Rattle.components.specs.declared.lossy.SenderState.the-variants as State
 use Rattle.components.specs.Ring.{places}
 use Rattle.components.specs.Queue.{queuePlaces}
 use Rattle.remy.specs.declared.simulation.Next.{Next}
-use Rattle.remy.specs.declared.simulation.Next.the-variants as Next
 use Rattle.remy.specs.declared.simulation.Simulation.{Simulation}
 use Rattle.remy.specs.Network.{between, networkStop}
 use Rattle.remy.specs.State.{senderAt, togglerAt, meterAt, queuedAt, waitingItems, onLineItems, onLinePackets, packetBits, totalBits}
 use Rattle.remy.specs.Queue.{nextTimeOf}
 use Rattle.remy.specs.Fit.{every, upTo, eachSender, packetFit, held, heldIfAny, heldSender, heldQueued, isNext, sinceStart, startedFit, meterStartFit, countOf, ackFit, heldWindowFit, isTimed, timerFit, senderOn, sameTime, nextFit, networkFit, ringsFit, packetsFit, bitsFit, clockFit, heldTimesFit, pastFit, totalsFit, sumsFit, recordsFit, dueFit, countsFit, windowsFit, timersFit, togglersAgree, metersAgree, meterBitsFit, queueFit, fit}
 use Rattle.remy.proofs.Facts.{both-i, range-i}
-use Rattle.remy.proofs.Fresh.{upTo-intro, fit-intro}
+use Rattle.remy.proofs.Fresh.{or-else, upTo-intro, fit-intro}
 use Rattle.steady.specs.Steady.{dueSoon, steady}
 use Rattle.steady.proofs.Facts.{Past, PastIfAny, PacketOk, TransitOk, TimerIfAny, StateOk, PartOk, sentOf, Body, PlaceOk, Between}
 use Rattle.steady.proofs.Lists.{all-map, all-mapped, all-every}
-
--- the second of two tests is needed only where the first fails
-or-else : (a b : Bool) → (a ≡ false → b ≡ true) → (a || b) ≡ true
-or-else true b h = refl
-or-else false b h = h refl
 
 beq-self : (a : Bool) → Bool·beq a a ≡ true
 beq-self true = refl

@@ -1,7 +1,7 @@
 -- A steady state by the parts of the state that each fact reads: the line with its packets, a sender with its toggler and meter, a place of the queue. Assumes nothing.
 use mathlib.Core.Path.{_≡_}
 use mathlib.Core.Bool.{true}
-use mathlib.Core.List.{List, [], _∷_}
+use mathlib.Core.List.{List}
 use Prim.Native.Nat.{ℕ, _+_, _*_, _≤_, _<_}
 use lib.Dec.{T}
 use lib.Ieee.{Float, le}
@@ -31,12 +31,8 @@ use Rattle.remy.specs.Network.{windowFit, networkStop}
 use Rattle.remy.specs.State.{noPacket, noTransit, senderAt, togglerAt, meterAt, queuedAt, waitingItems, onLinePackets, packetBits, totalBits}
 use Rattle.remy.specs.Queue.{nextTimeOf}
 use Rattle.remy.specs.Fit.{isTimed, senderOn, sameTime, heldQueued, countOf, rising}
+use Rattle.remy.proofs.Fresh.{All}
 use Rattle.steady.specs.Steady.{Full}
-
--- every member of a list
-abbrev pub All : {A : Type 0} → (A → Type 0) → List A → Type 0
-All P [] = Unit {0}
-All P (x ∷ xs) = P x × All P xs
 
 -- two moments in order
 abbrev pub NotAfter : Time → Time → Type 0

@@ -1,16 +1,18 @@
--- Steady is kept.
+-- Steady is kept: the facts of a steady state by parts, what each step of a tick keeps of them, and every turn.
 pub mod Facts
 pub mod Lists
+pub mod Ahead
+pub mod Clauses
 pub mod Open
 pub mod Close
+pub mod Times
 pub mod LineSteps
 pub mod Stores
-pub mod PartTimes
 pub mod Senders
 pub mod Meters
 pub mod PartSteps
+pub mod Full
 pub mod Requeue
 pub mod Pick
-pub mod Full
 pub mod Turns
 pub mod Steady

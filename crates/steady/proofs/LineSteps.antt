@@ -1,26 +1,24 @@
 -- A packet that leaves, starts or arrives keeps the facts of a state, the queue apart. Assumes nothing.
 use mathlib.Core.Path.{_≡_, refl, sym, ap, subst, _∙_}
-use mathlib.Core.Bool.{Bool, true, false, cond}
+use mathlib.Core.Bool.{true, false, cond}
 use mathlib.Core.List.{List, [], _∷_, _++_, map}
 use Prim.Native.Nat.{ℕ, _+_, _≤_, _<_}
 use native.Mathlib.Nat.{add-zero}
 use native.Mathlib.Omega.{arith}
 use borrow.Author.Tests.{leb-false, eq-eqb, eqb-true}
-use lib.Dec.{T, leb, eqb}
+use lib.Dec.{leb, eqb}
 use lib.ListN.{set}
-use lib.Ieee.{binary64, add, le}
+use lib.Ieee.{le}
 use lib.Ieee.Bits.{is-true}
-use Rattle.quantities.specs.declared.time.Time.{Time}
-use Rattle.quantities.specs.declared.time_span.TimeSpan.{TimeSpan}
-use Rattle.quantities.specs.Doubles.{zeroF, power, least, largest, inRange}
+use Rattle.quantities.specs.Doubles.{power}
 use Rattle.quantities.specs.Units.{spanOf, rateOf, amountOf, amountOverRate, after}
 use Rattle.quantities.proofs.Order.{le-known-r, le-refl}
-use Rattle.quantities.proofs.Ranges.{within, within-wider, add-within, sending}
+use Rattle.quantities.proofs.Ranges.{within, test→within, sending}
 use Rattle.components.specs.declared.packet.Packet.{Packet}
 use Rattle.components.specs.declared.packet.Transit.{Transit}
 use Rattle.components.specs.declared.link.Line.{Line}
 use Rattle.components.specs.Ring.{places, placeAfter, popped, items}
-use Rattle.components.specs.NewTime.{timeFine, newTime}
+use Rattle.components.specs.NewTime.{newTime}
 use Rattle.components.specs.Link.{admitted, departed, isDue, isFree, startedLine}
 use Rattle.components.proofs.Items.{items-push, items-pop, push-sound, pop-sound}
 use Rattle.components.proofs.Limits.{due-count, free-count}
@@ -30,14 +28,16 @@ use Rattle.remy.specs.State.{noPacket, noTransit, senderAt, meterAt, firstOf, f
 use Rattle.remy.specs.Fit.{countOf, rising}
 use Rattle.remy.proofs.Lists.{map-append, bits-append}
 use Rattle.remy.proofs.Facts.{both-l, both-r, both-i, range-low, range-high}
-use Rattle.remy.proofs.Networks.{FitNetwork, fit-network, some-bits, few-bits, delay-from-zero, sending-from-zero}
+use Rattle.remy.proofs.Networks.{FitNetwork, fit-network, some-bits, few-bits, sending-from-zero}
 use Rattle.remy.proofs.Steps.{cond-elim}
-use Rattle.steady.proofs.Facts.{All, NotAfter, Held, PacketOk, TransitOk, LineOk, sentOf, Body, Loose}
+use Rattle.remy.proofs.Fresh.{All}
+use Rattle.steady.proofs.Facts.{NotAfter, PacketOk, TransitOk, LineOk, sentOf, Body, Loose}
 use Rattle.steady.proofs.Lists.{all-append, all-map, count-append}
+use Rattle.steady.proofs.Times.{Early, short, new-held, new-ahead}
 
 -- ---- lists with one member more at the end
 
-pub count-end : (i : ℕ) (xs : List Packet) (p : Packet) → countOf i (xs ++ (p ∷ [])) ≡ countOf i xs + cond (eqb (p .sender) i) 1 0
+count-end : (i : ℕ) (xs : List Packet) (p : Packet) → countOf i (xs ++ (p ∷ [])) ≡ countOf i xs + cond (eqb (p .sender) i) 1 0
 count-end i xs p = count-append i xs (p ∷ []) ∙ ap (λ n. countOf i xs + n) (add-zero (cond (eqb (p .sender) i) 1 0))
 
 rising-rest : (x : Transit) (xs : List Transit) → rising (x ∷ xs) ≡ true → rising xs ≡ true
@@ -51,26 +51,13 @@ rising-end y (x ∷ (z ∷ zs)) e a =
     both-i (le (x .due .0 .0) (z .due .0 .0)) (rising ((z ∷ zs) ++ (y ∷ []))) (both-l (le (x .due .0 .0) (z .due .0 .0)) (rising (z ∷ zs)) e)
     (rising-end y (z ∷ zs) (both-r (le (x .due .0 .0) (z .due .0 .0)) (rising (z ∷ zs)) e) (a .1))
 
--- ---- new times
-
--- a new time that is taken is not before the clock
-pub new-ahead : (clock : Time) (span : TimeSpan) → newTime clock span .number ≡ 0 → NotAfter clock (after clock span)
-unfolding newTime
-new-ahead clock span e = by (timeFine clock (after clock span)) refl
-  where
-    by : (b : Bool) → timeFine clock (after clock span) ≡ b → NotAfter clock (after clock span)
-    by true f = subst T (sym (both-r (inRange least largest (after clock span .0 .0)) (le (clock .0 .0) (after clock span .0 .0)) f)) tt
-    by false f = let no : ⊥ = omega (arith, rw f at e) in absurd no
-
--- a span of at most 2^24 after a clock of at most 2^40 is held
-pub new-held : (clock : Time) (span : TimeSpan) → within (clock .0 .0) (power 40) → within (span .0) (power 24) → Held (after clock span)
-new-held clock span c d = add-within binary64 (clock .0 .0) (power 40) (span .0) (power 24) (power 41) c d tt tt (unfold add le in tt) tt .1 .1
+-- ---- the spans to a due time and to the next start
 
 module _ {n : RemyNetwork} (f : FitNetwork n) where
-  pub delay-within : within (n .delay) (power 24)
-  delay-within = within-wider (n .delay) (power 20) (power 24) (delay-from-zero f, range-high zeroF (power 20) (n .delay) (f .delay)) (unfold le in tt)
+  delay-within : within (n .delay) (power 24)
+  delay-within = short (n .delay) (test→within (power 20) (n .delay) (f .delay))
 
-  pub sending-within : within (amountOverRate (amountOf (n .bits)) (rateOf (n .rate)) .0) (power 24)
+  sending-within : within (amountOverRate (amountOf (n .bits)) (rateOf (n .rate)) .0) (power 24)
   sending-within = (
     sending-from-zero f,
     sending (n .bits) (n .rate) (some-bits f) (few-bits f) (range-low (power 0) (power 50) (n .rate) (f .rate)) (range-high (power 0) (power 50) (n .rate) (f .rate)) .2,
@@ -147,7 +134,7 @@ module _ (s : Simulation) (b : Body s) where
         record { packet = ok; room = omega (arith, b .records (p .sender) (ok .own), counted) }
 
   -- ---- the first packet that waits starts
-  module _ (early : T (le (s .head .clock .0 .0) (power 40))) (e : isFree (s .line) (s .head .clock) ≡ true) (room : leb places (s .line .«on_line» .count) ≡ false)
+  module _ (early : Early (s .head .clock)) (e : isFree (s .line) (s .head .clock) ≡ true) (room : leb places (s .line .«on_line» .count) ≡ false)
       (free : newTime (s .head .clock) (amountOverRate (packetBits (s .network) (firstOf s)) (rateOf (s .network .rate))) .number ≡ 0)
       (due : newTime (s .head .clock) (spanOf (s .network .delay)) .number ≡ 0) where
     ok : FitNetwork (s .network)
@@ -174,7 +161,7 @@ module _ (s : Simulation) (b : Body s) where
         let ahead : NotAfter (s .head .clock) (begun s .due) = new-ahead (s .head .clock) (spanOf (s .network .delay)) due in
         record {
           packet = waiting-now .0;
-          held = new-held (s .head .clock) (spanOf (s .network .delay)) (b .clock, early) (delay-within ok);
+          held = new-held (s .head .clock) (spanOf (s .network .delay)) early (delay-within ok);
           ahead = ahead;
           soon = le-refl (begun s .due .0 .0) (le-known-r (s .head .clock .0 .0) (begun s .due .0 .0) ahead);
         }
@@ -207,7 +194,7 @@ module _ (s : Simulation) (b : Body s) where
           order =
               subst (λ (l : List Transit). rising l ≡ true) (sym grown-moving)
               (rising-end (begun s) (onLineItems s) (b .line .order) (all-map Ok (λ x. NotAfter (x .due) (begun s .due)) (λ x q. q .soon) (onLineItems s) (b .line .moving-ok)));
-          free = new-held (s .head .clock) _ (b .clock, early) (sending-within ok);
+          free = new-held (s .head .clock) _ early (sending-within ok);
         })
         (λ i h. omega (arith, b .records i h, same-count i))
 

@@ -20,9 +20,10 @@ use Rattle.meters.specs.Sums.{summedOf}
 use Rattle.meters.specs.Meter.{isOn, ready, taken, unchanged, turned, countedOf, switchedOf, recordedOf}
 use Rattle.remy.proofs.Facts.{both-l, both-r, range-i}
 use Rattle.remy.proofs.Steps.{cond-elim}
+use Rattle.remy.proofs.Parts.{turned-records}
 use Rattle.remy.proofs.Taken.{MeterFacts, switch-taken}
 use Rattle.steady.proofs.Facts.{Past, PastIfAny, MeterOk}
-use Rattle.steady.proofs.PartTimes.{Early, now-past, total-grows}
+use Rattle.steady.proofs.Times.{Early, now-past, total-grows}
 
 -- ---- a record
 
@@ -77,10 +78,6 @@ turned-ok size clock m (Some t) e c k =
 turned-on : (m : AverageFlowMeter) (o : OptionTime) (t : Time) → isOn (turned m o t .«current_start») ≡ not (isOn o)
 turned-on m None t = refl
 turned-on m (Some u) t = refl
-
-turned-records : (m : AverageFlowMeter) (o : OptionTime) (t : Time) → turned m o t .records ≡ m .records
-turned-records m None t = refl
-turned-records m (Some u) t = refl
 
 pub record Switched (size : ℕ) (clock : Time) (m m' : AverageFlowMeter) : Type 0 where
   pub other : isOn (m' .«current_start») ≡ not (isOn (m .«current_start»))

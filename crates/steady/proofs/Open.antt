@@ -2,18 +2,18 @@
 use mathlib.Core.Path.{_≡_, refl, sym, ap, subst, _∙_}
 use mathlib.Core.Bool.{Bool, true, false, not, _&&_, _||_, Bool·beq, false≢true, cond}
 use mathlib.Core.List.{List, [], _∷_}
-use Prim.Native.Nat.{ℕ, _+_, _-_, _*_, _/_, _%_, _≤_, _<_}
+use Prim.Native.Nat.{ℕ, _+_, _*_, _≤_, _<_}
 use native.Mathlib.Decide.{ℕ-discrete}
 use native.Mathlib.Omega.{arith}
-use borrow.Author.Tests.{lt-ltb, ne-eqb, leb-true, ltb-true, eqb-true}
-use lib.Dec.{T, leb, ltb, eqb}
+use borrow.Author.Tests.{ne-eqb, leb-true, ltb-true, eqb-true}
+use lib.Dec.{leb, ltb, eqb}
 use lib.Ieee.{le, eq}
 use Rattle.quantities.specs.declared.time.Time.{Time}
 use Rattle.quantities.specs.declared.time.OptionTime.{OptionTime}
 use Rattle.quantities.specs.declared.time.OptionTime.the-variants.{None, Some}
-use Rattle.quantities.specs.Doubles.{zeroF, power, largest, earlier}
+use Rattle.quantities.specs.Doubles.{zeroF, largest}
 use Rattle.quantities.specs.Units.{latestOf, earliestOptOf}
-use Rattle.quantities.proofs.Order.{le-known-l, le-trans, eq→le, later-least, earlier-right}
+use Rattle.quantities.proofs.Order.{le-trans}
 use Rattle.meters.specs.Meter.{isOn, totalFit, sumFit}
 use Rattle.components.specs.declared.packet.Packet.{Packet}
 use Rattle.components.specs.declared.packet.Transit.{Transit}
@@ -29,20 +29,21 @@ use Rattle.remy.specs.declared.simulation.Next.{Next}
 use Rattle.remy.specs.declared.simulation.Next.the-variants as Next
 use Rattle.remy.specs.declared.simulation.Simulation.{Simulation}
 use Rattle.remy.specs.Network.{between, networkStop}
-use Rattle.remy.specs.State.{Role, link, sender, toggler, roleOf, senderPart, togglerPart, noTransit, senderAt, togglerAt, meterAt, queuedAt, frontOf, waitingItems, onLineItems, onLinePackets, packetBits, totalBits}
-use Rattle.remy.specs.Queue.{ownTime, nextTimeOf}
-use Rattle.remy.specs.Fit.{every, upTo, eachSender, packetFit, held, heldIfAny, isIdle, heldSender, heldQueued, isNext, sinceStart, startedFit, meterStartFit, countOf, rising, ackFit, heldWindowFit, isTimed, timerFit, senderOn, sameTime, nextFit, networkFit, ringsFit, packetsFit, bitsFit, clockFit, heldTimesFit, pastFit, totalsFit, sumsFit, recordsFit, dueFit, countsFit, windowsFit, timersFit, togglersAgree, metersAgree, meterBitsFit, queueFit, fit}
-use Rattle.remy.proofs.Facts.{both-l, both-r, range-low, range-high, between-low, between-high, upTo-at, FitState, fit-state}
+use Rattle.remy.specs.State.{Role, link, sender, toggler, roleOf, noTransit, senderAt, togglerAt, meterAt, queuedAt, frontOf, waitingItems, onLineItems, onLinePackets, packetBits, totalBits}
+use Rattle.remy.specs.Queue.{ownTime, nextTimeOf, partOf}
+use Rattle.remy.specs.Fit.{every, upTo, eachSender, packetFit, held, heldIfAny, isIdle, heldSender, heldQueued, isNext, sinceStart, startedFit, meterStartFit, countOf, rising, ackFit, heldWindowFit, isTimed, timerFit, senderOn, sameTime, nextFit, networkFit, ringsFit, packetsFit, bitsFit, clockFit, totalsFit, sumsFit, recordsFit, dueFit, countsFit, windowsFit, timersFit, togglersAgree, metersAgree, meterBitsFit, queueFit, fit}
+use Rattle.remy.proofs.Facts.{both-l, both-r, holds, range-low, range-high, between-low, between-high, upTo-at, FitState, fit-state}
 use Rattle.remy.proofs.Networks.{fit-network, few-senders}
 use Rattle.remy.proofs.Steps.{cond-elim}
+use Rattle.remy.proofs.Roles.{Real, role-of, part-inside}
+use Rattle.remy.proofs.Fresh.{All}
 use Rattle.steady.specs.Steady.{dueSoon, steady, Full}
-use Rattle.steady.proofs.Facts.{All, NotAfter, Held, Past, PastIfAny, PacketOk, TransitOk, LineOk, TimerIfAny, StateOk, MeterOk, PartOk, sentOf, Body, QueueBut, Between}
-use Rattle.steady.proofs.Lists.{every-all, all-unmapped}
+use Rattle.steady.proofs.Facts.{NotAfter, Held, Past, PastIfAny, PacketOk, TransitOk, LineOk, TimerIfAny, StateOk, MeterOk, PartOk, sentOf, Body, QueueBut, Between}
+use Rattle.steady.proofs.Clauses.{HeldTimes, held-times, PastTimes, past-times}
+use Rattle.steady.proofs.Lists.{all-with, every-all, all-unmapped}
+use Rattle.steady.proofs.Ahead.{HeldIfAny, FromIfAny, ahead-now, ahead-latest, queued-ahead, from-same, from-right}
 
 -- ---- tests
-
-holds : (b : Bool) → b ≡ true → T b
-holds b e = subst T (sym e) tt
 
 -- the second of two tests passed where the first did not
 or-rest : (a b : Bool) → a ≡ false → (a || b) ≡ true → b ≡ true
@@ -59,53 +60,7 @@ beq-same true false e = sym e
 beq-same false true e = e
 beq-same false false e = refl
 
--- what two facts of each member give
-all-with : {A : Type 0} (P Q R : A → Type 0) → ((x : A) → P x → Q x → R x) → (xs : List A) → All P xs → All Q xs → All R xs
-all-with P Q R f [] a b = tt
-all-with P Q R f (x ∷ xs) a b = (f x (a .0) (b .0), all-with P Q R f xs (a .1) (b .1))
-
--- ---- the role of each part
-
-pub role-sender : (n i : ℕ) → i < n → roleOf n (senderPart i) ≡ sender i
-unfolding roleOf
-role-sender n i h =
-    let half : (1 + 2 * i - 1) / 2 ≡ i = omega arith in
-    let odd : (1 + 2 * i) % 2 ≡ 1 = omega arith in
-    rw (ne-eqb (1 + 2 * i) 0 (omega arith), half, lt-ltb i n h, odd)
-
-pub role-toggler : (n i : ℕ) → i < n → roleOf n (togglerPart i) ≡ toggler i
-unfolding roleOf
-role-toggler n i h =
-    let half : (2 + 2 * i - 1) / 2 ≡ i = omega arith in
-    let even : (2 + 2 * i) % 2 ≡ 0 = omega arith in
-    rw (ne-eqb (2 + 2 * i) 0 (omega arith), half, lt-ltb i n h, even)
-
--- ---- times from the clock on
-
-abbrev AheadIfAny : Time → OptionTime → Type 0
-AheadIfAny clock None = Unit {0}
-AheadIfAny clock (Some t) = NotAfter clock t
-
-abbrev HeldIfAny : OptionTime → Type 0
-HeldIfAny None = Unit {0}
-HeldIfAny (Some t) = Held t
-
-ahead-same : (clock : Time) (x : OptionTime) → sameTime (Some clock) x ≡ true → AheadIfAny clock x
-ahead-same clock None e = tt
-ahead-same clock (Some t) e = eq→le (clock .0 .0) (t .0 .0) (holds _ e)
-
-ahead-queued : (s : Simulation) (q x : OptionTime) → sameTime q x ≡ true → heldQueued s q ≡ true → AheadIfAny (s .head .clock) x
-ahead-queued s q None e h = tt
-ahead-queued s None (Some t) e h = absurd (false≢true e)
-ahead-queued s (Some q) (Some t) e h =
-    le-trans (s .head .clock .0 .0) (q .0 .0) (t .0 .0) (holds _ (both-r (held q) (le (s .head .clock .0 .0) (q .0 .0)) h)) (eq→le (q .0 .0) (t .0 .0) (holds _ e))
-
--- the earlier of two is not after the second
-ahead-second : (clock : Time) (x : OptionTime) (t : Time) → HeldIfAny x → Held t → AheadIfAny clock (earliestOptOf x (Some t)) → NotAfter clock t
-ahead-second clock None t p q a = a
-ahead-second clock (Some u) t p q a =
-    le-trans (clock .0 .0) (earlier (u .0 .0) (t .0 .0)) (t .0 .0) a
-    (earlier-right (u .0 .0) (t .0 .0) (le-known-l (u .0 .0) (power 41) p) (le-known-l (t .0 .0) (power 41) q))
+-- ---- due times from the clock on
 
 -- where the first due time is from the clock on, so are all
 ahead-rising : (clock : Time) (x : Transit) (xs : List Transit) → rising (x ∷ xs) ≡ true → NotAfter clock (x .due) → All (λ y. NotAfter clock (y .due)) (x ∷ xs)
@@ -116,70 +71,6 @@ ahead-rising clock x (y ∷ ys) e a =
       ahead-rising clock y ys (both-r step (rising (y ∷ ys)) e)
           (le-trans (clock .0 .0) (x .due .0 .0) (y .due .0 .0) a (holds step (both-l step (rising (y ∷ ys)) e))),
     )
-
--- ---- the clause of held times
-
-record Times (s : Simulation) : Type 0 where
-  clock : (held (s .head .clock) || (isIdle (s .head .next) && eq (s .head .clock .0 .0) largest)) ≡ true
-  free : held (s .line .«earliest_transmit») ≡ true
-  dues : every (λ x. held (x .due)) (onLineItems s) ≡ true
-  senders : eachSender s (λ i. heldSender (senderAt s i .state)) ≡ true
-  toggles : eachSender s (λ i. held (togglerAt s i .«next_toggle»)) ≡ true
-  queue : upTo queuePlaces (λ k. isNext (s .head .next) k || heldQueued s (queuedAt s k)) ≡ true
-
-times : (s : Simulation) → heldTimesFit s ≡ true → Times s
-unfolding heldTimesFit
-times s all =
-    let now = held (s .head .clock) || (isIdle (s .head .next) && eq (s .head .clock .0 .0) largest) in
-    let free = held (s .line .«earliest_transmit») in
-    let waiting = every (λ p. held (p .«sent_time»)) (waitingItems s) in
-    let moving = every (λ p. held (p .«sent_time»)) (onLinePackets s) in
-    let dues = every (λ x. held (x .due)) (onLineItems s) in
-    let senders = eachSender s (λ i. heldSender (senderAt s i .state)) in
-    let toggles = eachSender s (λ i. held (togglerAt s i .«next_toggle»)) in
-    let starts = eachSender s (λ i. heldIfAny (meterAt s i .«current_start»)) in
-    let queue = upTo queuePlaces (λ k. isNext (s .head .next) k || heldQueued s (queuedAt s k)) in
-    let to-waiting = now && free && waiting in
-    let to-dues = to-waiting && moving && dues in
-    let to-toggles = to-dues && senders && toggles in
-    let by-starts = both-l (to-toggles && starts) queue all in
-    let by-toggles = both-l to-toggles starts by-starts in
-    let by-senders = both-l (to-dues && senders) toggles by-toggles in
-    let by-dues = both-l to-dues senders by-senders in
-    let by-moving = both-l (to-waiting && moving) dues by-dues in
-    let by-free = both-l (now && free) waiting (both-l to-waiting moving by-moving) in
-    record {
-      clock = both-l now free by-free;
-      free = both-r now free by-free;
-      dues = both-r (to-waiting && moving) dues by-dues;
-      senders = both-r to-dues senders by-senders;
-      toggles = both-r (to-dues && senders) toggles by-toggles;
-      queue = both-r (to-toggles && starts) queue all;
-    }
-
--- ---- the clause of past times
-
-record Pasts (s : Simulation) : Type 0 where
-  waiting : every (λ p. sinceStart s (p .«sent_time»)) (waitingItems s) ≡ true
-  moving : every (λ p. sinceStart s (p .«sent_time»)) (onLinePackets s) ≡ true
-  senders : eachSender s (λ i. startedFit s (senderAt s i .state)) ≡ true
-  meters : eachSender s (λ i. meterStartFit s (meterAt s i .«current_start»)) ≡ true
-
-pasts : (s : Simulation) → pastFit s ≡ true → Pasts s
-unfolding pastFit
-pasts s all =
-    let waiting = every (λ p. sinceStart s (p .«sent_time»)) (waitingItems s) in
-    let moving = every (λ p. sinceStart s (p .«sent_time»)) (onLinePackets s) in
-    let senders = eachSender s (λ i. startedFit s (senderAt s i .state)) in
-    let meters = eachSender s (λ i. meterStartFit s (meterAt s i .«current_start»)) in
-    let by-senders = both-l (waiting && moving && senders) meters all in
-    let by-moving = both-l (waiting && moving) senders by-senders in
-    record {
-      waiting = both-l waiting moving by-moving;
-      moving = both-r waiting moving by-moving;
-      senders = both-r (waiting && moving) senders by-senders;
-      meters = both-r (waiting && moving && senders) meters all;
-    }
 
 -- ---- a steady state in which part j is next
 
@@ -192,11 +83,11 @@ module _ (s : Simulation) (j : ℕ) (all : steady s ≡ true) (full : Full s) (n
   unfolding steady
   soon = both-r (fit s) (every (dueSoon s) (onLineItems s)) all
 
-  held-times : Times s
-  held-times = times s (fits .held)
+  helds : HeldTimes s
+  helds = held-times s (fits .held)
 
-  past : Pasts s
-  past = pasts s (fits .past)
+  pasts : PastTimes s
+  pasts = past-times s (fits .past)
 
   accepted : networkStop (s .network) ≡ 0
   unfolding networkFit
@@ -208,10 +99,10 @@ module _ (s : Simulation) (j : ℕ) (all : steady s ≡ true) (full : Full s) (n
   clock-held : Held (s .head .clock)
   clock-held =
       holds (held (s .head .clock))
-      (or-first (held (s .head .clock)) (isIdle (s .head .next) && eq (s .head .clock .0 .0) largest) (ap (λ (n : Next). isIdle n && eq (s .head .clock .0 .0) largest) next) (held-times .clock))
+      (or-first (held (s .head .clock)) (isIdle (s .head .next) && eq (s .head .clock .0 .0) largest) (ap (λ (n : Next). isIdle n && eq (s .head .clock .0 .0) largest) next) (helds .clock))
 
   free-held : Held (s .line .«earliest_transmit»)
-  free-held = holds (held (s .line .«earliest_transmit»)) (held-times .free)
+  free-held = holds (held (s .line .«earliest_transmit»)) (helds .free)
 
   -- ---- the queue
 
@@ -233,18 +124,22 @@ module _ (s : Simulation) (j : ℕ) (all : steady s ≡ true) (full : Full s) (n
       let own : ℕ → Bool = λ i. sameTime (queuedAt s i) (nextTimeOf s i) in
       record {
         own = place own (both-r (nextFit s (s .head .next)) (upTo queuePlaces (λ i. isNext (s .head .next) i || own i)) (fits .queue)) k h other;
-        ahead = place (λ i. heldQueued s (queuedAt s i)) (held-times .queue) k h other;
+        ahead = place (λ i. heldQueued s (queuedAt s i)) (helds .queue) k h other;
       }
 
   -- no part's own next time is before the clock
-  part-ahead : (k : ℕ) → k < queuePlaces → AheadIfAny (s .head .clock) (nextTimeOf s k)
+  part-ahead : (k : ℕ) → k < queuePlaces → FromIfAny (s .head .clock) (nextTimeOf s k)
   part-ahead k h = elim (ℕ-discrete k j) [
-    | yes same ↦ ahead-same (s .head .clock) (nextTimeOf s k) (subst (λ (i : ℕ). sameTime (Some (s .head .clock)) (nextTimeOf s i) ≡ true) (sym same) own-next)
-    | no other ↦ ahead-queued s (queuedAt s k) (nextTimeOf s k) (others k h other .own) (others k h other .ahead)
+    | yes same ↦
+        from-same (s .head .clock) (Some (s .head .clock)) (nextTimeOf s k) (subst (λ (i : ℕ). sameTime (Some (s .head .clock)) (nextTimeOf s i) ≡ true) (sym same) own-next)
+        (ahead-now (s .head .clock) clock-held .from)
+    | no other ↦ from-same (s .head .clock) (queuedAt s k) (nextTimeOf s k) (others k h other .own) (queued-ahead s (queuedAt s k) (others k h other .ahead) .from)
   ]
 
-  role-ahead : (k : ℕ) (role : Role) → k < queuePlaces → roleOf (s .network .senders) k ≡ role → AheadIfAny (s .head .clock) (ownTime s role)
-  role-ahead k role h e = subst (λ (r : Role). AheadIfAny (s .head .clock) (ownTime s r)) e (part-ahead k h)
+  role-ahead : (role : Role) → Real (s .network .senders) role → FromIfAny (s .head .clock) (ownTime s role)
+  role-ahead role r =
+      subst (λ (x : Role). FromIfAny (s .head .clock) (ownTime s x)) (role-of (s .network .senders) role r)
+      (part-ahead (partOf role) (part-inside (s .network .senders) role few r))
 
   -- ---- the line
 
@@ -277,16 +172,16 @@ module _ (s : Simulation) (j : ℕ) (all : steady s ≡ true) (full : Full s) (n
   unfolding roleOf ownTime nextTick nextTransmit nextDeliver
   front-ahead some h =
       let transmit = nextTransmit (s .line) (s .head .clock) in
-      let a : AheadIfAny (s .head .clock) (earliestOptOf transmit (nextDeliver (s .line) (frontOf s .due))) = role-ahead 0 link (omega arith) refl in
-      let b : AheadIfAny (s .head .clock) (earliestOptOf transmit (Some (frontOf s .due))) =
-      subst (λ (c : Bool). AheadIfAny (s .head .clock) (earliestOptOf transmit (cond c None (Some (frontOf s .due))))) (ne-eqb (s .line .«on_line» .count) 0 (omega arith)) a in
-      ahead-second (s .head .clock) transmit (frontOf s .due)
+      let a : FromIfAny (s .head .clock) (earliestOptOf transmit (nextDeliver (s .line) (frontOf s .due))) = role-ahead link tt in
+      let b : FromIfAny (s .head .clock) (earliestOptOf transmit (Some (frontOf s .due))) =
+      subst (λ (c : Bool). FromIfAny (s .head .clock) (earliestOptOf transmit (cond c None (Some (frontOf s .due))))) (ne-eqb (s .line .«on_line» .count) 0 (omega arith)) a in
+      from-right (s .head .clock) transmit (Some (frontOf s .due))
       (cond-elim HeldIfAny (eqb (s .line .waiting .count) 0) None (Some (latestOf (s .head .clock) (s .line .«earliest_transmit»))) (λ e. tt)
-      (λ e. later-least (s .head .clock .0 .0) (s .line .«earliest_transmit» .0 .0) (power 41) clock-held free-held))
+      (λ e. ahead-latest (s .head .clock) clock-held (s .line .«earliest_transmit») free-held .held))
       h b
 
   dues-held : All (λ x. held (x .due) ≡ true) (onLineItems s)
-  dues-held = every-all (λ x. held (x .due)) (onLineItems s) (held-times .dues)
+  dues-held = every-all (λ x. held (x .due)) (onLineItems s) (helds .dues)
 
   dues-ahead : All (λ x. NotAfter (s .head .clock) (x .due)) (onLineItems s)
   dues-ahead = elim (ℕ-discrete (s .line .«on_line» .count) 0) [
@@ -338,13 +233,13 @@ module _ (s : Simulation) (j : ℕ) (all : steady s ≡ true) (full : Full s) (n
         waits = rings .0;
         moves = rings .1;
         bits = eqb-true (s .line .«buffer_contains» .0) (totalBits (λ p. packetBits (s .network) p .0) (waitingItems s)) (fits .bits);
-        waiting-ok = packets-of (waitingItems s) (both-l packets moving-packets (fits .packets)) (past .waiting);
+        waiting-ok = packets-of (waitingItems s) (both-l packets moving-packets (fits .packets)) (pasts .waiting);
         moving-ok =
             all-with Due Sent (TransitOk (s .network .senders) (sentOf s) clock (s .network .delay))
             (λ x d p. record { packet = p .0; held = holds (held (x .due)) (d .0); ahead = d .1; soon = holds (dueSoon s x) (p .1) }) xs
             (all-with (λ x. held (x .due) ≡ true) (λ x. NotAfter clock (x .due)) Due (λ x h a. (h, a)) xs dues-held dues-ahead)
             (all-with (λ x. Good (x .packet)) (λ x. dueSoon s x ≡ true) Sent (λ x p d. (p, d)) xs
-            (all-unmapped Good (λ x. x .packet) xs (packets-of (onLinePackets s) (both-r packets moving-packets (fits .packets)) (past .moving)))
+            (all-unmapped Good (λ x. x .packet) xs (packets-of (onLinePackets s) (both-r packets moving-packets (fits .packets)) (pasts .moving)))
             (every-all (dueSoon s) xs soon));
         order = rises;
         free = free-held;
@@ -357,13 +252,13 @@ module _ (s : Simulation) (j : ℕ) (all : steady s ≡ true) (full : Full s) (n
   start-of (Some t) e = past-of t e
 
   -- a timer that is the second of two times, the earlier of which is from the clock on
-  timer-of : (policy : Policy) (x o : OptionTime) → HeldIfAny x → heldIfAny o ≡ true → (not (isOn o) || isTimed policy) ≡ true → AheadIfAny (s .head .clock) (earliestOptOf x o)
+  timer-of : (policy : Policy) (x o : OptionTime) → HeldIfAny x → heldIfAny o ≡ true → (not (isOn o) || isTimed policy) ≡ true → FromIfAny (s .head .clock) (earliestOptOf x o)
       → TimerIfAny policy (s .head .clock) o
   timer-of policy x None p h e a = tt
-  timer-of policy x (Some t) p h e a = record { timed = e; held = holds (held t) h; ahead = ahead-second (s .head .clock) x t p (holds (held t) h) a }
+  timer-of policy x (Some t) p h e a = record { timed = e; held = holds (held t) h; ahead = from-right (s .head .clock) x (Some t) p (holds (held t) h) a }
 
   state-of : (policy : Policy) (sent : ℕ) (x : SenderState) → heldSender x ≡ true → startedFit s x ≡ true → ackFit x ≡ true → heldWindowFit x ≡ true → timerFit policy x ≡ true
-      → AheadIfAny (s .head .clock) (stateNext sent x (s .head .clock)) → StateOk policy (s .head .clock) x
+      → FromIfAny (s .head .clock) (stateNext sent x (s .head .clock)) → StateOk policy (s .head .clock) x
   state-of policy sent State.WaitingForEnable h t c w e a = tt
   state-of policy sent (State.Enabled x) h t c w e a =
       record {
@@ -380,19 +275,19 @@ module _ (s : Simulation) (j : ℕ) (all : steady s ≡ true) (full : Full s) (n
     at : (g : ℕ → Bool) → eachSender s g ≡ true → g i ≡ true
     at g e = upTo-at (s .network .senders) g e i h
 
-    sender-ahead : AheadIfAny (s .head .clock) (stateNext (senderAt s i .«packets_sent») (senderAt s i .state) (s .head .clock))
+    sender-ahead : FromIfAny (s .head .clock) (stateNext (senderAt s i .«packets_sent») (senderAt s i .state) (s .head .clock))
     unfolding ownTime senderNext
-    sender-ahead = role-ahead (senderPart i) (sender i) (omega (arith, few)) (role-sender (s .network .senders) i h)
+    sender-ahead = role-ahead (sender i) h
 
     toggle-ahead : NotAfter (s .head .clock) (togglerAt s i .«next_toggle»)
     unfolding ownTime
-    toggle-ahead = role-ahead (togglerPart i) (toggler i) (omega (arith, few)) (role-toggler (s .network .senders) i h)
+    toggle-ahead = role-ahead (toggler i) h
 
     meter-ok : MeterOk (s .network .bits) (s .head .clock) (meterAt s i)
     unfolding totalsFit sumsFit meterBitsFit
     meter-ok =
         record {
-          start = start-of (meterAt s i .«current_start») (at (λ k. meterStartFit s (meterAt s k .«current_start»)) (past .meters));
+          start = start-of (meterAt s i .«current_start») (at (λ k. meterStartFit s (meterAt s k .«current_start»)) (pasts .meters));
           total = at (λ k. totalFit (meterAt s k .«total_time»)) (fits .totals);
           sum = at (λ k. sumFit (meterAt s k .records) (meterAt s k .«rtt_sum»)) (fits .sums);
           bits =
@@ -410,8 +305,8 @@ module _ (s : Simulation) (j : ℕ) (all : steady s ≡ true) (full : Full s) (n
           sent = leb-true (senderAt s i .«packets_sent») 16777216 (both-l few-sent few-acked counts);
           state =
               state-of (s .network .policy) (senderAt s i .«packets_sent») (senderAt s i .state)
-              (at (λ k. heldSender (senderAt s k .state)) (held-times .senders))
-              (at (λ k. startedFit s (senderAt s k .state)) (past .senders))
+              (at (λ k. heldSender (senderAt s k .state)) (helds .senders))
+              (at (λ k. startedFit s (senderAt s k .state)) (pasts .senders))
               (both-r few-sent few-acked counts)
               (at (λ k. heldWindowFit (senderAt s k .state)) (fits .windows))
               (at (λ k. timerFit (s .network .policy) (senderAt s k .state)) (fits .timers))
@@ -419,7 +314,7 @@ module _ (s : Simulation) (j : ℕ) (all : steady s ≡ true) (full : Full s) (n
           toggler-on =
               beq-same (togglerAt s i .enabled) (senderOn (senderAt s i .state))
               (at (λ k. Bool·beq (togglerAt s k .enabled) (senderOn (senderAt s k .state))) (fits .togglers));
-          toggle = holds (held (togglerAt s i .«next_toggle»)) (at (λ k. held (togglerAt s k .«next_toggle»)) (held-times .toggles));
+          toggle = holds (held (togglerAt s i .«next_toggle»)) (at (λ k. held (togglerAt s k .«next_toggle»)) (helds .toggles));
           toggle-ahead = toggle-ahead;
           meter-on =
               sym

@@ -5,10 +5,9 @@ use Prim.Native.Nat.{ℕ, _+_, _≤_, _<_}
 use native.Mathlib.Nat.{le-of-eq}
 use native.Mathlib.Omega.{arith}
 use borrow.Author.Tests.{eqb-true, eqb-false}
-use lib.Dec.{T, eqb}
-use lib.Ieee.{lt, le}
+use lib.Dec.{eqb}
+use lib.Ieee.{lt}
 use Rattle.quantities.specs.declared.time.Time.{Time}
-use Rattle.quantities.specs.Doubles.{power}
 use Rattle.quantities.specs.Units.{spanOf, since}
 use Rattle.rand.specs.declared.distribution.ContinuousDistribution.{ContinuousDistribution}
 use Rattle.rand.specs.Draws.{positiveOf}
@@ -33,9 +32,11 @@ use Rattle.remy.specs.Tick.{enabledSender, heardMeter, switchedSender}
 use Rattle.remy.proofs.Facts.{both-l, both-r}
 use Rattle.remy.proofs.Networks.{FitNetwork, fit-network, few-bits}
 use Rattle.remy.proofs.Steps.{cond-elim}
+use Rattle.remy.proofs.Parts.{new-is}
+use Rattle.remy.proofs.Fresh.{redraw-within}
 use Rattle.steady.proofs.Facts.{NotAfter, Held, EnabledOk, StateOk, PartOk, Body, Loose}
 use Rattle.steady.proofs.Stores.{unset, sender-set, toggler-set, meter-set, store}
-use Rattle.steady.proofs.PartTimes.{Early, now-past, new-held, new-ahead, redraw-within}
+use Rattle.steady.proofs.Times.{Early, now-past, short, new-held, new-ahead}
 use Rattle.steady.proofs.Senders.{first-fit, timer-ok, SentOk, sent-ok, acked-ok}
 use Rattle.steady.proofs.Meters.{Recorded, recorded-ok, Switched, switched-ok}
 
@@ -59,18 +60,16 @@ toggled-ok t clock on off c f g =
     (λ drawn. cond-elim (λ (x : Toggled). x .number ≡ 0 → Changed clock t (x .toggler)) (eqb (at .number) 0)
     (record { number = 0; toggler = changed }) (record { number = at .number; toggler = t })
     (λ taken z. let e = eqb-true (at .number) 0 taken in
-    record {
+    rw (new-is clock (spanOf (d .value)) e)
+    (record {
       other = refl;
-      held = new-held clock (spanOf (d .value)) c (redraw-within 8 (cond (not (t .enabled)) on off) fine (t .rng)) e;
+      held = new-held clock (spanOf (d .value)) c (short (d .value) (redraw-within 8 (cond (not (t .enabled)) on off) fine (t .rng)));
       ahead = new-ahead clock (spanOf (d .value)) e;
-    })
+    }))
     (λ refused z. absurd (eqb-false (at .number) 0 refused z)))
     (λ spent z. absurd (eqb-false (d .number) 0 spent z))
 
-module _ (s : Simulation) (b : Body s) (early : T (le (s .head .clock .0 .0) (power 40))) where
-  now : Early (s .head .clock)
-  now = record { low = b .clock; high = early }
-
+module _ (s : Simulation) (b : Body s) (early : Early (s .head .clock)) where
   net : FitNetwork (s .network)
   net = fit-network (s .network) (b .network)
 
@@ -103,12 +102,12 @@ module _ (s : Simulation) (b : Body s) (early : T (le (s .head .clock .0 .0) (po
           → Body (withSender s i (enabledSender (senderAt s i) (senderAt s i .«packets_sent») (tickTimer (s .network .policy) e (s .head .clock) .enabled)))
       timer-body z =
           resumed (senderAt s i .«packets_sent») (tickTimer (s .network .policy) e (s .head .clock) .enabled) (ap senderOn on) (le-of-eq refl) (part .sent)
-          (timer-ok (s .head .clock) now e (s .network .policy) (net .policy) enabled)
+          (timer-ok (s .head .clock) early e (s .network .policy) (net .policy) enabled)
 
       -- ---- a packet
       sent-fine : tickSend (senderAt s i .«packets_sent») (s .network .policy) e (s .head .clock) i .number ≡ 0
           → SentOk (s .head .clock) (senderAt s i .«packets_sent») (s .network .policy) i (tickSend (senderAt s i .«packets_sent») (s .network .policy) e (s .head .clock) i)
-      sent-fine z = sent-ok (s .head .clock) now e (senderAt s i .«packets_sent») (s .network .policy) i (net .policy) enabled z
+      sent-fine z = sent-ok (s .head .clock) early e (senderAt s i .«packets_sent») (s .network .policy) i (net .policy) enabled z
 
       pub send-body : let t = tickSend (senderAt s i .«packets_sent») (s .network .policy) e (s .head .clock) i in
           t .number ≡ 0 → Body (withSender s i (enabledSender (senderAt s i) (t .«packets_sent») (t .enabled)))
@@ -129,7 +128,7 @@ module _ (s : Simulation) (b : Body s) (early : T (le (s .head .clock .0 .0) (po
           let room = b .records i h in
           subst (Loose (withSender s i x)) (sym (k .packet))
           (record {
-            packet = record { own = h; first = omega arith; last = le-of-eq (sym sent); past = now-past (s .head .clock) now };
+            packet = record { own = h; first = omega arith; last = le-of-eq (sym sent); past = now-past (s .head .clock) early };
             room = rw sent (omega (arith, room));
           })
 
@@ -151,7 +150,7 @@ module _ (s : Simulation) (b : Body s) (early : T (le (s .head .clock .0 .0) (po
           store s b i h (sender-set s b i h (withState (senderAt s i) (State.Enabled (acked (s .network .policy) e p)))) (unset noToggler (s .togglers) i) (meter-set s b i h m) (le-of-eq refl)
           (record {
             sent = part .sent;
-            state = acked-ok (s .head .clock) now e (s .network .policy) p (net .policy) few (enabled e on);
+            state = acked-ok (s .head .clock) early e (s .network .policy) p (net .policy) few (enabled e on);
             toggler-on = part .toggler-on ∙ ap senderOn on;
             toggle = part .toggle;
             toggle-ahead = part .toggle-ahead;
@@ -185,7 +184,7 @@ module _ (s : Simulation) (b : Body s) (early : T (le (s .head .clock .0 .0) (po
         let k = b .parts i h in
         let room = b .records i h in
         let most = k .sent in
-        switched-ok (s .network .bits) (s .head .clock) (meterAt s i) on now (few-bits net) (omega (arith, room, most))
+        switched-ok (s .network .bits) (s .head .clock) (meterAt s i) on early (few-bits net) (omega (arith, room, most))
         (sym e ∙ changed .other ∙ ap not (k .toggler-on ∙ sym (k .meter-on))) (k .meter)
 
     -- the sender, on or off as its toggler is
@@ -215,7 +214,7 @@ module _ (s : Simulation) (b : Body s) (early : T (le (s .head .clock .0 .0) (po
     unfolding enabledOf disabledOf
     switch-body true e =
         switched true e (switchedSender (withToggler s i t) i true) refl
-        (record { started = now-past (s .head .clock) now; ack = b .parts i h .sent; window = first-fit (s .network .policy) (net .policy); timer = tt }) refl
+        (record { started = now-past (s .head .clock) early; ack = b .parts i h .sent; window = first-fit (s .network .policy) (net .policy); timer = tt }) refl
     switch-body false e = switched false e (switchedSender (withToggler s i t) i false) refl tt refl
 
   pub toggle-body : (i : ℕ) → i < s .network .senders →
@@ -227,4 +226,4 @@ module _ (s : Simulation) (b : Body s) (early : T (le (s .head .clock .0 .0) (po
       let off = s .network .off in
       let t = toggleOf (togglerAt s i) (s .head .clock) on off .toggler in
       switch-body i h t
-      (toggled-ok (togglerAt s i) (s .head .clock) on off now (both-l (timesFit on) (timesFit off) (net .times)) (both-r (timesFit on) (timesFit off) (net .times)) z) (t .enabled) refl
+      (toggled-ok (togglerAt s i) (s .head .clock) on off early (both-l (timesFit on) (timesFit off) (net .times)) (both-r (timesFit on) (timesFit off) (net .times)) z) (t .enabled) refl

@@ -1,6 +1,6 @@
 -- The pick: where there is a sender, the least queued time becomes the clock, and then every part's own next time is what it was. Assumes nothing.
 use mathlib.Core.Path.{_≡_, refl, sym, ap, ap₂, subst, _∙_}
-use mathlib.Core.Bool.{Bool, true, false, not, cond, false≢true}
+use mathlib.Core.Bool.{Bool, true, false, cond, false≢true}
 use mathlib.Core.List.{List, [], _∷_}
 use Prim.Native.Nat.{ℕ, _≤_, _<_}
 use native.Mathlib.Omega.{arith}
@@ -8,15 +8,15 @@ use borrow.Author.Tests.{eqb-true, eqb-false}
 use lib.Dec.{T, eqb}
 use lib.ListN.{set, length-set}
 use lib.Seq.{getD-set-other}
-use lib.Ieee.{Float, binary64, le, eq, isNan}
+use lib.Ieee.{Float, binary64, le, eq}
 use lib.Ieee.Bits.{is-true}
 use Rattle.quantities.specs.declared.time.Time.{Time}
 use Rattle.quantities.specs.declared.time.OptionTime.{OptionTime}
 use Rattle.quantities.specs.declared.time.OptionTime.the-variants.{None, Some}
-use Rattle.quantities.specs.Doubles.{zeroF, power, earlier}
-use Rattle.quantities.specs.Units.{spanOf, latestOf, earliestOf, earliestOptOf}
+use Rattle.quantities.specs.Doubles.{zeroF, power}
+use Rattle.quantities.specs.Units.{spanOf, latestOf, earliestOptOf}
 use Rattle.quantities.specs.Units.{after as spanAfter}
-use Rattle.quantities.proofs.Order.{le-known-l, le-known-r, le-trans, le-antisym, eq→le, eq→ge, eq-trans, later-left, later-right, later-least, earlier-left, earlier-right, earlier-most}
+use Rattle.quantities.proofs.Order.{le-known-l, le-known-r, le-trans, le-antisym, later-left, later-right, later-least}
 use Rattle.quantities.proofs.Ranges.{test→within, within-finite, due-order}
 use Rattle.meters.specs.declared.meter.AverageFlowMeter.{AverageFlowMeter}
 use Rattle.components.specs.declared.packet.Packet.{Packet}
@@ -37,82 +37,21 @@ use Rattle.remy.specs.declared.simulation.Next.the-variants as Next
 use Rattle.remy.specs.declared.simulation.Simulation.{Simulation}
 use Rattle.remy.specs.State.{Role, link, sender, toggler, nobody, roleOf, noPacket, noTransit, senderAt, togglerAt, meterAt, firstOf, frontOf, queuedAt, waitingItems, onLineItems, withHead, withQueue}
 use Rattle.remy.specs.Queue.{ownTime, nextTimeOf, partOf, headOf, removed, picked}
-use Rattle.remy.specs.Fit.{held, heldQueued, sameTime, rising}
-use Rattle.remy.proofs.Facts.{both-l, both-r}
+use Rattle.remy.specs.Fit.{heldQueued, sameTime, rising}
+use Rattle.remy.proofs.Facts.{both-l, both-r, holds}
 use Rattle.remy.proofs.Networks.{fit-network, few-senders, delay-from-zero}
-use Rattle.steady.proofs.Facts.{All, NotAfter, Held, Past, PastIfAny, PacketOk, TransitOk, TimerIfAny, StateOk, MeterOk, Body, sentOf, QueueOk, Between}
+use Rattle.remy.proofs.Roles.{Real, role-at, role-of, part-inside}
+use Rattle.remy.proofs.Fresh.{All}
+use Rattle.steady.proofs.Facts.{NotAfter, Held, Past, PastIfAny, PacketOk, TransitOk, TimerIfAny, StateOk, MeterOk, Body, sentOf, QueueOk, Between}
 use Rattle.steady.proofs.Lists.{all-map}
-use Rattle.steady.proofs.Requeue.{Real, role-at, role-of, Ahead, AheadIfAny, ahead-known, ahead-queued, same-self, front-ok, transmit-ahead, deliver-ahead, send-ahead, timer-ahead}
-
--- ---- times that may be there
-
--- a time, if there is one, not before t
-abbrev FromIfAny : Time → OptionTime → Type 0
-FromIfAny t None = Unit {0}
-FromIfAny t (Some u) = NotAfter t u
+use Rattle.steady.proofs.Full.{full-queue}
+use Rattle.steady.proofs.Ahead.{FromIfAny, Ahead, held-known, queued-ahead, ahead-queued, same-self, same-trans, from-same, from-left, from-right, same-earliest}
+use Rattle.steady.proofs.Requeue.{front-ok, transmit-ahead, deliver-ahead, send-ahead, timer-ahead}
 
 -- the first of the packets on the line, if there is one, due at t or later
 abbrev FirstFrom : Time → List Transit → Type 0
 FirstFrom t [] = Unit {0}
 FirstFrom t (x ∷ xs) = NotAfter t (x .due)
-
-test : (b : Bool) → b ≡ true → T b
-test b e = subst T (sym e) tt
-
-same-trans : (x y z : OptionTime) → sameTime x y ≡ true → sameTime y z ≡ true → sameTime x z ≡ true
-same-trans None None z h k = k
-same-trans None (Some u) z h k = absurd (false≢true h)
-same-trans (Some t) None z h k = absurd (false≢true h)
-same-trans (Some t) (Some u) None h k = absurd (false≢true k)
-same-trans (Some t) (Some u) (Some v) h k =
-    is-true (eq (t .0 .0) (v .0 .0)) (eq-trans (t .0 .0) (u .0 .0) (v .0 .0) (test (eq (t .0 .0) (u .0 .0)) h) (test (eq (u .0 .0) (v .0 .0)) k))
-
-from-same : (t : Time) (x y : OptionTime) → sameTime x y ≡ true → FromIfAny t x → FromIfAny t y
-from-same t None None e h = tt
-from-same t None (Some v) e h = absurd (false≢true e)
-from-same t (Some u) None e h = tt
-from-same t (Some u) (Some v) e h = le-trans (t .0 .0) (u .0 .0) (v .0 .0) h (eq→le (u .0 .0) (v .0 .0) (test (eq (u .0 .0) (v .0 .0)) e))
-
-queued-ahead : (s : Simulation) (x : OptionTime) → heldQueued s x ≡ true → AheadIfAny (s .head .clock) x
-queued-ahead s None e = tt
-queued-ahead s (Some t) e =
-    let late = le (s .head .clock .0 .0) (t .0 .0) in
-    record { held = test (held t) (both-l (held t) late e); from = test late (both-r (held t) late e) }
-
-ahead-later : (c t : Time) (x : OptionTime) → AheadIfAny c x → FromIfAny t x → AheadIfAny t x
-ahead-later c t None a f = tt
-ahead-later c t (Some u) a f = record { held = a .held; from = f }
-
-module _ (clock : Time) where
-  -- what is not before t is so of both that the earlier is taken of
-  from-left : (t : Time) (a b : OptionTime) → AheadIfAny clock a → AheadIfAny clock b → FromIfAny t (earliestOptOf a b) → FromIfAny t a
-  from-left t None b p q h = tt
-  from-left t (Some u) None p q h = h
-  from-left t (Some u) (Some v) p q h =
-      le-trans (t .0 .0) (earliestOf u v .0 .0) (u .0 .0) h (earlier-left (u .0 .0) (v .0 .0) (ahead-known p) (ahead-known q))
-
-  from-right : (t : Time) (a b : OptionTime) → AheadIfAny clock a → AheadIfAny clock b → FromIfAny t (earliestOptOf a b) → FromIfAny t b
-  from-right t None b p q h = h
-  from-right t (Some u) None p q h = tt
-  from-right t (Some u) (Some v) p q h =
-      le-trans (t .0 .0) (earliestOf u v .0 .0) (v .0 .0) h (earlier-right (u .0 .0) (v .0 .0) (ahead-known p) (ahead-known q))
-
-earlier-le : (x x' y : Float) → T (le x x') → T (not (isNan y)) → T (le (earlier x y) (earlier x' y))
-earlier-le x x' y h k =
-    let known = le-known-l x x' h in
-    earlier-most x' y (earlier x y) (le-trans (earlier x y) x x' (earlier-left x y known k) h) (earlier-right x y known k)
-
-same-earliest : (clock : Time) (a a' b : OptionTime) → AheadIfAny clock b → sameTime a a' ≡ true → sameTime (earliestOptOf a b) (earliestOptOf a' b) ≡ true
-same-earliest clock None None b p e = same-self clock b p
-same-earliest clock None (Some u) b p e = absurd (false≢true e)
-same-earliest clock (Some t) None b p e = absurd (false≢true e)
-same-earliest clock (Some t) (Some u) None p e = e
-same-earliest clock (Some t) (Some u) (Some v) p e =
-    let h = test (eq (t .0 .0) (u .0 .0)) e in
-    is-true (eq (earliestOf t v .0 .0) (earliestOf u v .0 .0))
-    (le-antisym (earliestOf t v .0 .0) (earliestOf u v .0 .0)
-    (earlier-le (t .0 .0) (u .0 .0) (v .0 .0) (eq→le (t .0 .0) (u .0 .0) h) (ahead-known p))
-    (earlier-le (u .0 .0) (t .0 .0) (v .0 .0) (eq→ge (t .0 .0) (u .0 .0) h) (ahead-known p)))
 
 -- ---- a clock that moves from c to t, where t is not after what is due
 
@@ -170,7 +109,7 @@ module _ (c t : Time) (later : NotAfter c t) where
   state-later : (policy : Policy) (sent : ℕ) (x : SenderState) → Held c → FromIfAny t (stateNext sent x c) → StateOk policy c x → StateOk policy t x
   state-later policy sent State.WaitingForEnable h f ok = tt
   state-later policy sent (State.Enabled e) h f ok =
-      let due = from-right c t (nextSend sent e c) (e .timer) (send-ahead sent e c h) (timer-ahead policy c (e .timer) (ok .timer)) f in
+      let due = from-right t (nextSend sent e c) (e .timer) (send-ahead sent e c h .held) (timer-ahead policy c (e .timer) (ok .timer) .held) f in
       record {
         started = past-later (e .started) (ok .started);
         ack = ok .ack;
@@ -182,9 +121,9 @@ module _ (c t : Time) (later : NotAfter c t) where
       → sameTime (stateNext sent x c) (stateNext sent x t) ≡ true
   state-same policy sent State.WaitingForEnable h f ok = refl
   state-same policy sent (State.Enabled e) h f ok =
-      let timer = timer-ahead policy c (e .timer) (ok .timer) in
-      same-earliest c (nextSend sent e c) (nextSend sent e t) (e .timer) timer
-      (send-same sent e (from-left c t (nextSend sent e c) (e .timer) (send-ahead sent e c h) timer f))
+      let timer = timer-ahead policy c (e .timer) (ok .timer) .held in
+      same-earliest (nextSend sent e c) (nextSend sent e t) (e .timer) timer
+      (send-same sent e (from-left t (nextSend sent e c) (e .timer) (send-ahead sent e c h .held) timer f))
 
   -- the packets on the line, whose due times rise, where the first is due at t or later
   module _ (n : ℕ) (sent : ℕ → ℕ) (delay : Float) (soon : NotAfter (spanAfter c (spanOf delay)) (spanAfter t (spanOf delay))) where
@@ -202,7 +141,7 @@ module _ (c t : Time) (later : NotAfter c t) where
     transits-later (x ∷ []) r f ok = (transit-later x f (ok .0), tt)
     transits-later (x ∷ (y ∷ ys)) r f ok =
         let rise = le (x .due .0 .0) (y .due .0 .0) in
-        let next = le-trans (t .0 .0) (x .due .0 .0) (y .due .0 .0) f (test rise (both-l rise (rising (y ∷ ys)) r)) in
+        let next = le-trans (t .0 .0) (x .due .0 .0) (y .due .0 .0) f (holds rise (both-l rise (rising (y ∷ ys)) r)) in
         (transit-later x f (ok .0), transits-later (y ∷ ys) (both-r rise (rising (y ∷ ys)) r) next (ok .1))
 
 -- ---- the state with its clock at t, where no part is due before t, and part j is next and not queued
@@ -210,7 +149,7 @@ module _ (c t : Time) (later : NotAfter c t) where
 abbrev moved : Simulation → ℕ → Time → Simulation
 moved s j t = withHead (withQueue s (set (s .queue) j noQueued)) (record { clock = t; next = Next.Part j })
 
-module _ (s : Simulation) (b : Body s) (t : Time) (ahead : Ahead (s .head .clock) t) (j : ℕ)
+module _ (s : Simulation) (b : Body s) (t : Time) (ahead : Ahead (s .head .clock) (Some t)) (j : ℕ)
     (least : (role : Role) → Real (s .network .senders) role → FromIfAny t (ownTime s role)) where
   -- every part's own next time is what it was
   own-same : (role : Role) → Real (s .network .senders) role → sameTime (ownTime s role) (ownTime (moved s j t) role) ≡ true
@@ -219,12 +158,12 @@ module _ (s : Simulation) (b : Body s) (t : Time) (ahead : Ahead (s .head .clock
       let c = s .head .clock in
       let go = nextTransmit (s .line) c in
       let leave = nextDeliver (s .line) (frontOf s .due) in
-      same-earliest c go (nextTransmit (s .line) t) leave (deliver-ahead s b)
-      (transmit-same c t (ahead .from) (s .line) (b .line .free) (from-left c t go leave (transmit-ahead s b) (deliver-ahead s b) (least link tt)))
+      same-earliest go (nextTransmit (s .line) t) leave (deliver-ahead s b .held)
+      (transmit-same c t (ahead .from) (s .line) (b .line .free) (from-left t go leave (transmit-ahead s b .held) (deliver-ahead s b .held) (least link tt)))
   own-same (sender i) r =
       let x = senderAt s i in
       state-same (s .head .clock) t (ahead .from) (s .network .policy) (x .«packets_sent») (x .state) (b .held) (least (sender i) r) (b .parts i r .state)
-  own-same (toggler i) r = same-self (s .head .clock) (Some (togglerAt s i .«next_toggle»)) (record { held = b .parts i r .toggle; from = b .parts i r .toggle-ahead })
+  own-same (toggler i) r = same-self (Some (togglerAt s i .«next_toggle»)) (b .parts i r .toggle)
   own-same nobody r = absurd r
 
   first-from : FirstFrom t (onLineItems s)
@@ -232,7 +171,7 @@ module _ (s : Simulation) (b : Body s) (t : Time) (ahead : Ahead (s .head .clock
   first-from =
       let c = s .head .clock in
       by (eqb (s .line .«on_line» .count) 0) refl
-      (from-right c t (nextTransmit (s .line) c) (nextDeliver (s .line) (frontOf s .due)) (transmit-ahead s b) (deliver-ahead s b) (least link tt))
+      (from-right t (nextTransmit (s .line) c) (nextDeliver (s .line) (frontOf s .due)) (transmit-ahead s b .held) (deliver-ahead s b .held) (least link tt))
     where
       by : (z : Bool) → eqb (s .line .«on_line» .count) 0 ≡ z → FromIfAny t (cond z None (Some (frontOf s .due))) → FirstFrom t (onLineItems s)
       by true e f = subst (FirstFrom t) (sym (items-empty noTransit (s .«on_line») (s .line .«on_line») (eqb-true (s .line .«on_line» .count) 0 e))) tt
@@ -258,15 +197,7 @@ module _ (s : Simulation) (b : Body s) (t : Time) (ahead : Ahead (s .head .clock
       let c = s .head .clock in
       let waiting = PacketOk (net .senders) (sentOf s) in
       record {
-        full =
-            record {
-              waiting = b .full .waiting;
-              moving = b .full .moving;
-              senders = b .full .senders;
-              togglers = b .full .togglers;
-              meters = b .full .meters;
-              queue = length-set (s .queue) j noQueued ∙ b .full .queue;
-            };
+        full = full-queue s (record { clock = t; next = Next.Part j }) (set (s .queue) j noQueued) (length-set (s .queue) j noQueued ∙ b .full .queue) (b .full);
         network = b .network;
         clock = from-zero;
         held = ahead .held;
@@ -302,14 +233,8 @@ module _ (s : Simulation) (b : Body s) (t : Time) (ahead : Ahead (s .head .clock
 abbrev next : Simulation → ℕ
 next s = pickOf (s .queue) .part
 
-part-inside : (n : ℕ) (role : Role) → n ≤ 16 → Real n role → partOf role < queuePlaces
-part-inside n link few r = omega arith
-part-inside n (sender i) few r = omega arith
-part-inside n (toggler i) few r = omega arith
-part-inside n nobody few r = absurd r
-
 module _ (s : Simulation) (b : Body s) (q : QueueOk s) where
-  queued : (k : ℕ) → k < queuePlaces → AheadIfAny (s .head .clock) (queuedAt s k)
+  queued : (k : ℕ) → k < queuePlaces → Ahead (s .head .clock) (queuedAt s k)
   queued k h = queued-ahead s (queuedAt s k) (q k h .ahead)
 
   module _ (t : Time) (e : pickOf (s .queue) .time ≡ Some t) where
@@ -319,16 +244,16 @@ module _ (s : Simulation) (b : Body s) (q : QueueOk s) where
     there : queuedAt s (next s) ≡ Some t
     there = picked-there (s .queue) e
 
-    picked-ahead : Ahead (s .head .clock) t
-    picked-ahead = subst (AheadIfAny (s .head .clock)) there (queued (next s) inside)
+    picked-ahead : Ahead (s .head .clock) (Some t)
+    picked-ahead = subst (Ahead (s .head .clock)) there (queued (next s) inside)
 
     -- no queued time is before the picked one
     queued-from : (k : ℕ) → k < queuePlaces → FromIfAny t (queuedAt s k)
     queued-from k h = by (queuedAt s k) refl (queued k h)
       where
-        by : (x : OptionTime) → queuedAt s k ≡ x → AheadIfAny (s .head .clock) x → FromIfAny t x
+        by : (x : OptionTime) → queuedAt s k ≡ x → Ahead (s .head .clock) x → FromIfAny t x
         by None i a = tt
-        by (Some u) i a = picked-le (s .queue) e k i (ahead-known a) (ahead-known picked-ahead)
+        by (Some u) i a = picked-le (s .queue) e k i (held-known u (a .held)) (held-known t (picked-ahead .held))
 
     -- nor is an own next time
     own-from : (role : Role) → Real (s .network .senders) role → FromIfAny t (ownTime s role)
@@ -360,7 +285,7 @@ module _ (s : Simulation) (b : Body s) (q : QueueOk s) where
                 own =
                     ap (λ (x : OptionTime). sameTime x (nextTimeOf s' k)) same
                     ∙ same-trans (queuedAt s k) (nextTimeOf s k) (nextTimeOf s' k) (q k h .own) (next-same k);
-                ahead = ap (heldQueued s') same ∙ ahead-queued s' (queuedAt s k) (ahead-later (s .head .clock) t (queuedAt s k) (queued k h) (queued-from k h));
+                ahead = ap (heldQueued s') same ∙ ahead-queued s' (queuedAt s k) (record { held = queued k h .held; from = queued-from k h });
               };
         }
 

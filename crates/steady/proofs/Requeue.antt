@@ -1,22 +1,19 @@
 -- The queue under the stores of a tick: a store that one part alone reads leaves the other places right, and the requeue puts that part's place right. Assumes nothing.
 use mathlib.Core.Path.{_≡_, refl, ap, ap₂, subst, _∙_}
-use mathlib.Core.Bool.{true, not, _&&_, cond, false≢true}
+use mathlib.Core.Bool.{_&&_}
 use mathlib.Core.List.{List}
-use Prim.Native.Nat.{ℕ, _-_, _/_, _%_, _<_}
+use Prim.Native.Nat.{ℕ, _<_}
 use native.Mathlib.Decide.{ℕ-discrete}
 use native.Mathlib.Omega.{arith}
-use borrow.Author.Tests.{lt-ltb, eq-eqb, ne-eqb, ltb-true, eqb-true, eqb-false}
-use lib.Dec.{T, ltb, eqb}
+use borrow.Author.Tests.{eqb-false}
+use lib.Dec.{eqb}
 use lib.ListN.{length, getD, set, length-set}
 use lib.Seq.{getD-set-same, getD-set-other}
-use lib.Ieee.{le, eq, isNan}
-use lib.Ieee.Bits.{is-true}
+use lib.Ieee.{le}
 use Rattle.quantities.specs.declared.time.Time.{Time}
 use Rattle.quantities.specs.declared.time.OptionTime.{OptionTime}
 use Rattle.quantities.specs.declared.time.OptionTime.the-variants.{None, Some}
-use Rattle.quantities.specs.Doubles.{power}
-use Rattle.quantities.specs.Units.{latestOf, earliestOf, earliestOptOf}
-use Rattle.quantities.proofs.Order.{le-known-l, le-refl, le-trans, eq-refl, later-left, later-least, earlier-left, earlier-most}
+use Rattle.quantities.specs.Units.{latestOf}
 use Rattle.meters.specs.declared.meter.AverageFlowMeter.{AverageFlowMeter}
 use Rattle.components.specs.declared.packet.Transit.{Transit}
 use Rattle.components.specs.declared.lossy.Policy.{Policy}
@@ -36,55 +33,13 @@ use Rattle.remy.specs.declared.simulation.Simulation.{Simulation}
 use Rattle.remy.specs.State.{Role, link, sender, toggler, nobody, senderPart, togglerPart, roleOf, noTransit, noSender, noToggler, senderAt, frontOf, queuedAt, withSender, withToggler, withMeter, withMeters, withQueue, withQueued}
 use Rattle.remy.specs.Queue.{ownTime, nextTimeOf, partOf, requeue}
 use Rattle.remy.specs.Fit.{held, heldQueued, sameTime}
-use Rattle.remy.proofs.Facts.{both-i}
 use Rattle.remy.proofs.Steps.{cond-elim}
-use Rattle.steady.proofs.Facts.{All, NotAfter, Held, TransitOk, StateOk, TimerIfAny, Body, sentOf, PlaceOk, QueueBut, QueueOk}
+use Rattle.remy.proofs.Roles.{Real, role-at, role-of}
+use Rattle.remy.proofs.Fresh.{All}
+use Rattle.steady.proofs.Facts.{Held, TransitOk, StateOk, TimerIfAny, Body, sentOf, PlaceOk, QueueBut, QueueOk}
 use Rattle.steady.proofs.Lists.{all-first}
-
--- ---- parts and roles
-
--- a role that is there among n senders
-abbrev pub Real : ℕ → Role → Type 0
-Real n link = Unit {0}
-Real n (sender i) = i < n
-Real n (toggler i) = i < n
-Real n nobody = ⊥
-
--- what holds of each role that is there, and of nobody, holds of part k's role
-pub role-at : (P : Role → Type 0) (n k : ℕ) → ((role : Role) → Real n role → k ≡ partOf role → P role) → P nobody → P (roleOf n k)
-unfolding roleOf
-role-at P n k a b =
-    let i = (k - 1) / 2 in
-    cond-elim P (eqb k 0) link (cond (ltb i n) (cond (eqb (k % 2) 1) (sender i) (toggler i)) nobody)
-    (λ z. a link tt (eqb-true k 0 z))
-    (λ z.
-    let some : k ≡ 0 → ⊥ = eqb-false k 0 z in
-    cond-elim P (ltb i n) (cond (eqb (k % 2) 1) (sender i) (toggler i)) nobody
-    (λ l.
-    cond-elim P (eqb (k % 2) 1) (sender i) (toggler i)
-    (λ o.
-    let odd : k % 2 ≡ 1 = eqb-true (k % 2) 1 o in
-    let e : k ≡ senderPart i = omega arith in
-    a (sender i) (ltb-true i n l) e)
-    (λ o.
-    let even : k % 2 ≡ 1 → ⊥ = eqb-false (k % 2) 1 o in
-    let e : k ≡ togglerPart i = omega arith in
-    a (toggler i) (ltb-true i n l) e))
-    (λ l. b))
-
--- a role that is there is the role of its part
-pub role-of : (n : ℕ) (role : Role) → Real n role → roleOf n (partOf role) ≡ role
-unfolding roleOf
-role-of n link r = refl
-role-of n (sender i) r =
-    let one : (senderPart i - 1) / 2 ≡ i = omega arith in
-    let odd : senderPart i % 2 ≡ 1 = omega arith in
-    rw (ne-eqb (senderPart i) 0 (omega arith), one, lt-ltb i n r, eq-eqb (senderPart i % 2) 1 odd)
-role-of n (toggler i) r =
-    let one : (togglerPart i - 1) / 2 ≡ i = omega arith in
-    let even : togglerPart i % 2 ≡ 1 → ⊥ = omega arith in
-    rw (ne-eqb (togglerPart i) 0 (omega arith), one, lt-ltb i n r, ne-eqb (togglerPart i % 2) 1 even)
-role-of n nobody r = absurd r
+use Rattle.steady.proofs.Full.{full-queue}
+use Rattle.steady.proofs.Ahead.{Ahead, ahead-queued, same-self, ahead-now, ahead-latest, ahead-earliest}
 
 -- ---- stores
 
@@ -102,7 +57,7 @@ place-same s s' k c q e p =
     }
 
 -- a store that only the part j reads
-pub part-changes : (j : ℕ) (s s' : Simulation) → s' .network ≡ s .network → s' .head .clock ≡ s .head .clock → s' .queue ≡ s .queue
+part-changes : (j : ℕ) (s s' : Simulation) → s' .network ≡ s .network → s' .head .clock ≡ s .head .clock → s' .queue ≡ s .queue
     → ((role : Role) → (partOf role ≡ j → ⊥) → ownTime s' role ≡ ownTime s role) → QueueBut j s → QueueBut j s'
 part-changes j s s' n c q same but k h other =
     place-same s s' k c (ap (λ (l : List Queued). getD l k noQueued .time) q)
@@ -161,39 +116,6 @@ meter-changes j s i m =
 
 -- ---- own next times are held, and not before the clock
 
--- a time from the clock on, held
-pub record Ahead (clock t : Time) : Type 0 where
-  pub held : Held t
-  pub from : NotAfter clock t
-
-abbrev pub AheadIfAny : Time → OptionTime → Type 0
-AheadIfAny clock None = Unit {0}
-AheadIfAny clock (Some t) = Ahead clock t
-
--- such a time is no NaN
-pub ahead-known : {clock t : Time} → Ahead clock t → T (not (isNan (t .0 .0)))
-ahead-known {clock} {t} a = le-known-l (t .0 .0) (power 41) (a .held)
-
-module _ (clock : Time) (h : Held clock) where
-  ahead-now : Ahead clock clock
-  ahead-now = record { held = h; from = le-refl (clock .0 .0) (le-known-l (clock .0 .0) (power 41) h) }
-
-  ahead-latest : (t : Time) → Held t → Ahead clock (latestOf clock t)
-  ahead-latest t k =
-      record {
-        held = later-least (clock .0 .0) (t .0 .0) (power 41) h k;
-        from = later-left (clock .0 .0) (t .0 .0) (le-known-l (clock .0 .0) (power 41) h) (le-known-l (t .0 .0) (power 41) k);
-      }
-
-ahead-earliest : (clock : Time) (a b : OptionTime) → AheadIfAny clock a → AheadIfAny clock b → AheadIfAny clock (earliestOptOf a b)
-ahead-earliest clock None b p q = q
-ahead-earliest clock (Some t) None p q = p
-ahead-earliest clock (Some t) (Some u) p q =
-    record {
-      held = le-trans (earliestOf t u .0 .0) (t .0 .0) (power 41) (earlier-left (t .0 .0) (u .0 .0) (ahead-known p) (ahead-known q)) (p .held);
-      from = earlier-most (t .0 .0) (u .0 .0) (clock .0 .0) (p .from) (q .from);
-    }
-
 -- the first packet on the line
 pub front-ok : (s : Simulation) → Body s → 0 < s .line .«on_line» .count
     → TransitOk (s .network .senders) (sentOf s) (s .head .clock) (s .network .delay) (frontOf s)
@@ -203,36 +125,36 @@ front-ok s b some =
     (subst (All Ok) (items-pop (b .line .moves) noTransit some) (b .line .moving-ok))
 
 module _ (s : Simulation) (b : Body s) where
-  pub transmit-ahead : AheadIfAny (s .head .clock) (nextTransmit (s .line) (s .head .clock))
+  pub transmit-ahead : Ahead (s .head .clock) (nextTransmit (s .line) (s .head .clock))
   unfolding nextTransmit
   transmit-ahead =
-      cond-elim (AheadIfAny (s .head .clock)) (eqb (s .line .waiting .count) 0) None (Some (latestOf (s .head .clock) (s .line .«earliest_transmit»)))
-      (λ e. tt)
+      cond-elim (Ahead (s .head .clock)) (eqb (s .line .waiting .count) 0) None (Some (latestOf (s .head .clock) (s .line .«earliest_transmit»)))
+      (λ e. record { held = tt; from = tt })
       (λ e. ahead-latest (s .head .clock) (b .held) (s .line .«earliest_transmit») (b .line .free))
 
-  pub deliver-ahead : AheadIfAny (s .head .clock) (nextDeliver (s .line) (frontOf s .due))
+  pub deliver-ahead : Ahead (s .head .clock) (nextDeliver (s .line) (frontOf s .due))
   unfolding nextDeliver
   deliver-ahead =
-      cond-elim (AheadIfAny (s .head .clock)) (eqb (s .line .«on_line» .count) 0) None (Some (frontOf s .due))
-      (λ e. tt)
+      cond-elim (Ahead (s .head .clock)) (eqb (s .line .«on_line» .count) 0) None (Some (frontOf s .due))
+      (λ e. record { held = tt; from = tt })
       (λ e.
       let none : s .line .«on_line» .count ≡ 0 → ⊥ = eqb-false (s .line .«on_line» .count) 0 e in
       let ok = front-ok s b (omega arith) in
       record { held = ok .held; from = ok .ahead })
 
-pub timer-ahead : (policy : Policy) (clock : Time) (timer : OptionTime) → TimerIfAny policy clock timer → AheadIfAny clock timer
-timer-ahead policy clock None ok = tt
+pub timer-ahead : (policy : Policy) (clock : Time) (timer : OptionTime) → TimerIfAny policy clock timer → Ahead clock timer
+timer-ahead policy clock None ok = record { held = tt; from = tt }
 timer-ahead policy clock (Some t) ok = record { held = ok .held; from = ok .ahead }
 
-pub send-ahead : (sent : ℕ) (e : Enabled) (clock : Time) → Held clock → AheadIfAny clock (nextSend sent e clock)
-send-ahead sent e clock h = cond-elim (AheadIfAny clock) (maySend sent e) (Some clock) None (λ m. ahead-now clock h) (λ m. tt)
+pub send-ahead : (sent : ℕ) (e : Enabled) (clock : Time) → Held clock → Ahead clock (nextSend sent e clock)
+send-ahead sent e clock h = cond-elim (Ahead clock) (maySend sent e) (Some clock) None (λ m. ahead-now clock h) (λ m. record { held = tt; from = tt })
 
-state-ahead : (policy : Policy) (sent : ℕ) (x : SenderState) (clock : Time) → Held clock → StateOk policy clock x → AheadIfAny clock (stateNext sent x clock)
-state-ahead policy sent State.WaitingForEnable clock h ok = tt
+state-ahead : (policy : Policy) (sent : ℕ) (x : SenderState) (clock : Time) → Held clock → StateOk policy clock x → Ahead clock (stateNext sent x clock)
+state-ahead policy sent State.WaitingForEnable clock h ok = record { held = tt; from = tt }
 state-ahead policy sent (State.Enabled e) clock h ok =
     ahead-earliest clock (nextSend sent e clock) (e .timer) (send-ahead sent e clock h) (timer-ahead policy clock (e .timer) (ok .timer))
 
-pub own-ahead : (s : Simulation) (role : Role) → Body s → Real (s .network .senders) role → AheadIfAny (s .head .clock) (ownTime s role)
+own-ahead : (s : Simulation) (role : Role) → Body s → Real (s .network .senders) role → Ahead (s .head .clock) (ownTime s role)
 unfolding ownTime nextTick senderNext
 own-ahead s link b r =
     ahead-earliest (s .head .clock) (nextTransmit (s .line) (s .head .clock)) (nextDeliver (s .line) (frontOf s .due)) (transmit-ahead s b) (deliver-ahead s b)
@@ -243,19 +165,8 @@ own-ahead s nobody b r = absurd r
 
 -- ---- the requeue
 
--- a time is the same as itself unless it is NaN
-pub same-self : (clock : Time) (x : OptionTime) → AheadIfAny clock x → sameTime x x ≡ true
-same-self clock None a = refl
-same-self clock (Some t) a = is-true (eq (t .0 .0) (t .0 .0)) (eq-refl (t .0 .0) (ahead-known a))
-
-pub ahead-queued : (s : Simulation) (x : OptionTime) → AheadIfAny (s .head .clock) x → heldQueued s x ≡ true
-ahead-queued s None a = refl
-ahead-queued s (Some t) a =
-    let clock = s .head .clock in
-    both-i (held t) (le (clock .0 .0) (t .0 .0)) (is-true (held t) (a .held)) (is-true (le (clock .0 .0) (t .0 .0)) (a .from))
-
 -- The part is queued at its own next time. Of the state this reads no more than that time, so that it holds between a toggler's tick and its sender's.
-pub requeued-ahead : (s : Simulation) (role : Role) → length (s .queue) ≡ queuePlaces → AheadIfAny (s .head .clock) (ownTime s role)
+pub requeued-ahead : (s : Simulation) (role : Role) → length (s .queue) ≡ queuePlaces → Ahead (s .head .clock) (ownTime s role)
     → Real (s .network .senders) role → QueueBut (partOf role) s → QueueOk (requeue s role)
 unfolding requeue
 requeued-ahead s role full ahead r but k h = at (ℕ-discrete k (partOf role))
@@ -273,7 +184,7 @@ requeued-ahead s role full ahead r but k h = at (ℕ-discrete k (partOf role))
         let mine : nextTimeOf (requeue s role) k ≡ ownTime s role =
         own (roleOf (s .network .senders) k) ∙ ap (ownTime s) (ap (roleOf (s .network .senders)) e ∙ role-of (s .network .senders) role r) in
         record {
-          own = ap₂ sameTime there mine ∙ same-self (s .head .clock) (ownTime s role) ahead;
+          own = ap₂ sameTime there mine ∙ same-self (ownTime s role) (ahead .held);
           ahead = ap (heldQueued (requeue s role)) there ∙ ahead-queued (requeue s role) (ownTime s role) ahead;
         }
     at (no other) =
@@ -284,18 +195,11 @@ pub requeued : (s : Simulation) (role : Role) → Body s → Real (s .network .s
 requeued s role b r = requeued-ahead s role (b .full .queue) (own-ahead s role b r) r
 
 -- nothing but the queue itself reads the queue
-pub queued-body : (s : Simulation) (k : ℕ) (x : OptionTime) → Body s → Body (withQueued s k x)
+queued-body : (s : Simulation) (k : ℕ) (x : OptionTime) → Body s → Body (withQueued s k x)
 queued-body s k x b =
+    let queue = set (s .queue) k (record { time = x }) in
     record {
-      full =
-          record {
-            waiting = b .full .waiting;
-            moving = b .full .moving;
-            senders = b .full .senders;
-            togglers = b .full .togglers;
-            meters = b .full .meters;
-            queue = length-set (s .queue) k (record { time = x }) ∙ b .full .queue;
-          };
+      full = full-queue s (s .head) queue (length-set (s .queue) k (record { time = x }) ∙ b .full .queue) (b .full);
       network = b .network;
       clock = b .clock;
       held = b .held;
@@ -307,13 +211,3 @@ queued-body s k x b =
 pub requeue-body : (s : Simulation) (role : Role) → Body s → Body (requeue s role)
 unfolding requeue
 requeue-body s role b = queued-body s (partOf role) (ownTime s role) b
-
--- ---- the part that is next
-
--- it is there, and the role of that part
-pub next-role : (s : Simulation) (j : ℕ) → sameTime (Some (s .head .clock)) (nextTimeOf s j) ≡ true
-    → Real (s .network .senders) (roleOf (s .network .senders) j) × (j ≡ partOf (roleOf (s .network .senders) j))
-next-role s j =
-    role-at (λ (role : Role). sameTime (Some (s .head .clock)) (ownTime s role) ≡ true → Real (s .network .senders) role × (j ≡ partOf role)) (s .network .senders) j
-    (λ role r e h. (r, e))
-    (unfold ownTime in λ h. absurd (false≢true h))

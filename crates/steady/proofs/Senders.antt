@@ -17,7 +17,7 @@ use Rattle.remy.specs.Network.{windowFit, gapFit, policyFit}
 use Rattle.remy.proofs.Facts.{both-l, both-r, both-i, between-low, between-high}
 use Rattle.remy.proofs.Steps.{cond-elim}
 use Rattle.steady.proofs.Facts.{EnabledOk}
-use Rattle.steady.proofs.PartTimes.{Early, timer-in-ok, timer-sent-ok}
+use Rattle.steady.proofs.Times.{Early, timer-in-ok, timer-sent-ok}
 
 -- ---- windows
 

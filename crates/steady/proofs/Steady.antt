@@ -1,10 +1,9 @@
 -- Every tick keeps a steady state, every build gives one, and so every state that is reached from a build is fit: stop 9 is never met there. Assumes nothing.
-use mathlib.Core.Path.{_≡_, refl, sym, ap, subst, _∙_}
-use mathlib.Core.Bool.{Bool, true, false, _&&_, cond}
+use mathlib.Core.Path.{_≡_, refl, ap, subst}
+use mathlib.Core.Bool.{true}
 use mathlib.Core.List.{List, [], _∷_}
 use Prim.Native.Nat.{ℕ}
-use lib.Dec.{T}
-use lib.Ieee.{lt, le}
+use lib.Ieee.{lt}
 use Rattle.quantities.specs.Doubles.{power}
 use Rattle.remy.specs.declared.network.RemyNetwork.{RemyNetwork}
 use Rattle.remy.specs.declared.simulation.Next.{Next}
@@ -12,19 +11,17 @@ use Rattle.remy.specs.declared.simulation.Next.the-variants as Next
 use Rattle.remy.specs.declared.simulation.Simulation.{Simulation}
 use Rattle.remy.specs.declared.simulation.Built.{Built}
 use Rattle.remy.specs.declared.simulation.Ticked.{Ticked}
-use Rattle.remy.specs.declared.simulation.TickRecord.{TickRecord}
 use Rattle.remy.specs.State.{roleOf, onLineItems}
 use Rattle.remy.specs.Fit.{every, fit}
 use Rattle.remy.specs.Build.{buildOf}
 use Rattle.remy.specs.Tick.{Outcome, moves, stops, outcomeOf, unmoved, ticked, tickNext, tickOf}
-use Rattle.remy.specs.History.{Call, tick, called, after, Fresh}
+use Rattle.remy.specs.History.{Call, tick, after, Fresh}
 use Rattle.remy.proofs.Facts.{both-l, both-i, fit-state}
 use Rattle.remy.proofs.Front.{clock-bounded}
 use Rattle.remy.proofs.Steps.{cond-elim}
 use Rattle.remy.proofs.Outcomes.{OnMoves}
 use Rattle.remy.proofs.Fresh.{fresh-fit}
 use Rattle.steady.specs.Steady.{dueSoon, steady, Full}
-use Rattle.steady.proofs.Facts.{Between}
 use Rattle.steady.proofs.Open.{opened}
 use Rattle.steady.proofs.Close.{closed}
 use Rattle.steady.proofs.Full.{built-new}

@@ -33,7 +33,7 @@ module _ (n : ℕ) (sent sent' : ℕ → ℕ) (more : (i : ℕ) → sent i ≤ s
   transit-more : (delay : Float) (x : Transit) → TransitOk n sent clock delay x → TransitOk n sent' clock delay x
   transit-more delay x k = record { packet = packet-more (x .packet) (k .packet); held = k .held; ahead = k .ahead; soon = k .soon }
 
-pub line-more : (net : RemyNetwork) (sent sent' : ℕ → ℕ) → ((i : ℕ) → sent i ≤ sent' i) → (clock : Time) (l : Line) (waiting : List Packet) (moving : List Transit)
+line-more : (net : RemyNetwork) (sent sent' : ℕ → ℕ) → ((i : ℕ) → sent i ≤ sent' i) → (clock : Time) (l : Line) (waiting : List Packet) (moving : List Transit)
     → LineOk net sent clock l waiting moving → LineOk net sent' clock l waiting moving
 line-more net sent sent' more clock l waiting moving k =
     record {

@@ -1,24 +1,18 @@
 -- Each part's turn keeps a steady state: what it stores, requeues and picks. Assumes nothing.
-use mathlib.Core.Path.{_≡_, refl, sym, ap, subst, _∙_}
-use mathlib.Core.Bool.{Bool, true, false, not, _&&_, cond, true≢false, false≢true}
-use mathlib.Core.List.{List, [], _∷_, map}
-use mathlib.Core.Logic.{_⊎_, inl, inr, ⊎-elim}
-use Prim.Native.Nat.{ℕ, zero, suc, _+_, _*_, _-_, _/_, _%_, _≤_, _<_}
+use mathlib.Core.Path.{_≡_, refl, sym, subst}
+use mathlib.Core.Bool.{Bool, true, false, cond}
+use mathlib.Core.List.{[], _∷_}
+use Prim.Native.Nat.{ℕ, _≤_, _<_}
 use native.Mathlib.Omega.{arith}
-use borrow.Author.Tests.{eq-eqb, ne-eqb, eqb-true, eqb-false, ltb-true, lt-ltb, leb-true}
-use lib.Dec.{T, leb, ltb, eqb}
+use borrow.Author.Tests.{eqb-true}
+use lib.Dec.{T, leb, eqb}
 use lib.Ieee.{lt, le}
-use lib.ListN.{getD, set}
-use Rattle.quantities.specs.declared.time.Time.{Time}
-use Rattle.quantities.specs.declared.time.OptionTime.{OptionTime}
-use Rattle.quantities.specs.declared.time.OptionTime.the-variants.{None, Some}
-use Rattle.quantities.specs.Doubles.{zeroF, power}
-use Rattle.quantities.specs.Units.{spanOf, rateOf, amountOverRate, after, earliestOptOf}
+use lib.ListN.{set}
+use Rattle.quantities.specs.Doubles.{power}
+use Rattle.quantities.specs.Units.{spanOf, rateOf, amountOverRate}
 use Rattle.rand.specs.Draws.{unitOf}
-use Rattle.meters.specs.declared.meter.AverageFlowMeter.{AverageFlowMeter}
 use Rattle.meters.specs.Meter.{switchedOf}
 use Rattle.components.specs.declared.packet.Packet.{Packet}
-use Rattle.components.specs.declared.packet.Transit.{Transit}
 use Rattle.components.specs.declared.link.Line.{Line}
 use Rattle.components.specs.declared.link.Arrival.{Arrival}
 use Rattle.components.specs.declared.link.Left.{Left}
@@ -26,39 +20,34 @@ use Rattle.components.specs.declared.link.Left.the-variants as Left
 use Rattle.components.specs.declared.link.Begun.the-variants as Begun
 use Rattle.components.specs.declared.link.Delivered.{Delivered}
 use Rattle.components.specs.declared.link.Transmitted.{Transmitted}
-use Rattle.components.specs.declared.lossy.Enabled.{Enabled}
 use Rattle.components.specs.declared.lossy.SenderState.{SenderState}
 use Rattle.components.specs.declared.lossy.SenderState.the-variants as State
 use Rattle.components.specs.declared.lossy.LossySender.{LossySender}
 use Rattle.components.specs.declared.lossy.Heard.{Heard}
 use Rattle.components.specs.declared.lossy.Heard.the-variants as Heard
-use Rattle.components.specs.declared.toggler.Toggler.{Toggler}
 use Rattle.components.specs.declared.toggler.Toggled.{Toggled}
-use Rattle.components.specs.Ring.{places, placeAfter, popped, items}
-use Rattle.components.specs.Link.{admits, admitted, receiveOf, isDue, departed, tryDeliver, isFree, startedLine, notStarted, startWith, tryTransmit, nextTransmit, nextDeliver, nextTick}
+use Rattle.components.specs.Ring.{places, placeAfter}
+use Rattle.components.specs.Link.{admits, admitted, receiveOf, isDue, departed, tryDeliver, isFree, startedLine, notStarted, startWith, tryTransmit}
 use Rattle.components.specs.Sender.{tickTimer, tickSend, timerDue, returnedOf}
 use Rattle.components.specs.Toggler.{toggleOf}
 use Rattle.components.specs.NewTime.{newTime}
-use Rattle.components.specs.Queue.{pickOf, queuePlaces}
-use Rattle.components.proofs.Items.{Sound, items-pop}
-use Rattle.components.proofs.Limits.{due-count}
+use Rattle.components.specs.Queue.{pickOf}
 use Rattle.remy.specs.declared.network.RemyNetwork.{RemyNetwork}
-use Rattle.remy.specs.declared.simulation.Next.{Next}
-use Rattle.remy.specs.declared.simulation.Next.the-variants as Next
 use Rattle.remy.specs.declared.simulation.Simulation.{Simulation}
 use Rattle.remy.specs.declared.simulation.Mark.the-variants as Mark
 use Rattle.remy.specs.declared.simulation.Name.the-variants as Name
 use Rattle.remy.specs.declared.simulation.TickRecord.{TickRecord}
-use Rattle.remy.specs.State.{Role, link, sender, toggler, nobody, roleOf, senderPart, togglerPart, noPacket, noTransit, senderAt, togglerAt, meterAt, firstOf, frontOf, packetBits, withLine, withWaiting, withOnLine, withSender, withToggler, withMeter}
+use Rattle.remy.specs.State.{Role, link, sender, toggler, nobody, roleOf, senderPart, togglerPart, senderAt, togglerAt, meterAt, firstOf, frontOf, packetBits, withLine, withWaiting, withSender, withToggler, withMeter}
 use Rattle.remy.specs.Queue.{ownTime, partOf, requeue, picked}
-use Rattle.remy.specs.Fit.{sameTime}
-use Rattle.remy.specs.Tick.{named, recordAt, Message, arrives, returns, switches, Acted, stopped, linkWith, linkActs, enabledSender, timerWith, sendWith, senderWith, senderActs, togglerWith, togglerActs, actsOf, Outcome, moves, stops, arriveWith, heardMeter, returnWith, switchedSender, switchWith, deliver, pickAgain, outcomeWith, outcomeOf}
+use Rattle.remy.specs.Tick.{named, recordAt, arrives, returns, switches, Acted, stopped, linkWith, linkActs, enabledSender, timerWith, sendWith, senderWith, senderActs, togglerActs, actsOf, Outcome, moves, stops, arriveWith, heardMeter, switchedSender, deliver, pickAgain, outcomeWith, outcomeOf}
 use Rattle.remy.proofs.Steps.{cond-elim}
 use Rattle.remy.proofs.Parts.{new-is}
-use Rattle.remy.proofs.Outcomes.{OnMoves, on-picked, on-stopped}
-use Rattle.steady.proofs.Facts.{All, PacketOk, TransitOk, LineOk, PartOk, Body, Loose, PlaceOk, QueueBut, QueueOk, Between, Held, NotAfter}
-use Rattle.steady.proofs.Requeue.{Real, line-changes, sender-changes, toggler-changes, meter-changes, requeued-ahead, requeued, requeue-body}
+use Rattle.remy.proofs.Outcomes.{OnMoves, on-stopped}
+use Rattle.remy.proofs.Roles.{Real, role-at}
+use Rattle.steady.proofs.Facts.{Body, Loose, QueueBut, QueueOk, Between}
+use Rattle.steady.proofs.Requeue.{line-changes, sender-changes, toggler-changes, meter-changes, requeued-ahead, requeued, requeue-body}
 use Rattle.steady.proofs.Pick.{some-senders, picked-between}
+use Rattle.steady.proofs.Times.{Early}
 use Rattle.steady.proofs.LineSteps.{begun, started, leave-body, leave-loose, start-body, start-loose, arrive-body}
 use Rattle.steady.proofs.PartSteps.{timer-body, send-body, send-loose, return-body, toggle-body}
 
@@ -95,9 +84,14 @@ ready s role b real q some = record { body = unfold requeue in requeue-body s ro
 but : (s : Simulation) (j : ℕ) → QueueOk s → QueueBut j s
 but s j q k h apart = q k h
 
+-- a loose packet is so after a requeue too
+loose-requeued : (s : Simulation) (role : Role) (p : Packet) → Loose s p → Loose (requeue s role) p
+unfolding requeue
+loose-requeued s role p l = record { packet = l .packet; room = l .room }
+
 -- ---- a packet that starts, or does not: the line alone changes
 
-module _ (s : Simulation) (b : Body s) (early : T (le (s .head .clock .0 .0) (power 40))) where
+module _ (s : Simulation) (b : Body s) (early : Early (s .head .clock)) where
   transmit-elim : (F : Transmitted → Type 0) → F (notStarted (s .line) 0) → ((m : ℕ) → eqb m 0 ≡ false → F (notStarted (s .line) m))
       → (Body (started s) → ((p : Packet) → Loose s p → Loose (started s) p) → F (record { number = 0; begun = Begun.Starts (begun s); line = started s .line }))
       → F (tryTransmit (s .line) (s .head .clock) (firstOf s) (spanOf (s .network .delay)) (rateOf (s .network .rate)) (packetBits (s .network) (firstOf s)))
@@ -124,7 +118,7 @@ module _ (s : Simulation) (b : Body s) (early : T (le (s .head .clock .0 .0) (po
 
 -- ---- a packet that comes back
 
-module _ (s : Simulation) (b : Body s) (q : QueueOk s) (early : T (le (s .head .clock .0 .0) (power 40))) (r : TickRecord) (p : Packet) (l : Loose s p) where
+module _ (s : Simulation) (b : Body s) (q : QueueOk s) (early : Early (s .head .clock)) (r : TickRecord) (p : Packet) (l : Loose s p) where
   heard-queue : (x : LossySender) (h : Heard) → QueueBut (senderPart (p .sender)) (heardMeter (withSender s (p .sender) x) (p .sender) p h)
   heard-queue x Heard.Ignored = sender-changes s (p .sender) x (but s (senderPart (p .sender)) q)
   heard-queue x Heard.Old = sender-changes s (p .sender) x (but s (senderPart (p .sender)) q)
@@ -147,7 +141,7 @@ module _ (s : Simulation) (b : Body s) (q : QueueOk s) (early : T (le (s .head .
 
 -- ---- the link's turn
 
-module _ (s : Simulation) (b : Between 0 s) (early : T (le (s .head .clock .0 .0) (power 40))) where
+module _ (s : Simulation) (b : Between 0 s) (early : Early (s .head .clock)) where
   -- the line changed, and the link is queued again
   link-ready : (m : Simulation) → m .network ≡ s .network → m .head ≡ s .head → m .senders ≡ s .senders → m .togglers ≡ s .togglers → m .queue ≡ s .queue → Body m → Ready (requeue m link)
   link-ready m n h x t q body = ready m link body tt (line-changes s m n h x t q (b .queue)) (subst (λ (x : RemyNetwork). 1 ≤ x .senders) (sym n) (some-senders 0 s b))
@@ -185,11 +179,6 @@ module _ (s : Simulation) (b : Between 0 s) (early : T (le (s .head .clock .0 .0
         (refused (Left.Lost (frontOf s .packet)) (departed (s .line)))
         (λ body stay. land (requeue (started gone) link) (link-ready (started gone) refl refl refl refl refl body))
 
-    -- a packet that left is loose after the requeue too
-    loose-requeued : (m : Simulation) (p : Packet) → Loose m p → Loose (requeue m link) p
-    unfolding requeue
-    loose-requeued m p l = record { packet = l .packet; room = l .room }
-
     comes : OnMoves LandedBy
         (outcomeWith link
         (linkWith s (record { left = Left.Out (frontOf s .packet); line = departed (s .line) })
@@ -200,11 +189,11 @@ module _ (s : Simulation) (b : Between 0 s) (early : T (le (s .head .clock .0 .0
         let loose : Loose gone p = leave-loose s (b .body) e in
         transmit-elim gone gone-body early (λ (t : Transmitted). OnMoves LandedBy (outcomeWith link (linkWith s (record { left = Left.Out p; line = departed (s .line) }) t)))
         (let k = link-ready gone refl refl refl refl refl gone-body in
-        lands (deliver (recordAt s link Mark.None (named p) Name.None) (requeue gone link) (returns p)) (back (requeue gone link) (k .body) (k .queue) (unfold requeue in early) (recordAt s link Mark.None (named p) Name.None) p (loose-requeued gone p loose)))
+        lands (deliver (recordAt s link Mark.None (named p) Name.None) (requeue gone link) (returns p)) (back (requeue gone link) (k .body) (k .queue) (unfold requeue in early) (recordAt s link Mark.None (named p) Name.None) p (loose-requeued gone link p loose)))
         (refused (Left.Out p) (departed (s .line)))
         (λ body stay.
         let k = link-ready (started gone) refl refl refl refl refl body in
-        lands (deliver (recordAt s link Mark.None (named p) (named (firstOf s))) (requeue (started gone) link) (returns p)) (back (requeue (started gone) link) (k .body) (k .queue) (unfold requeue in early) (recordAt s link Mark.None (named p) (named (firstOf s))) p (loose-requeued (started gone) p (stay p loose))))
+        lands (deliver (recordAt s link Mark.None (named p) (named (firstOf s))) (requeue (started gone) link) (returns p)) (back (requeue (started gone) link) (k .body) (k .queue) (unfold requeue in early) (recordAt s link Mark.None (named p) (named (firstOf s))) p (loose-requeued (started gone) link p (stay p loose))))
 
   link-lands : OnMoves LandedBy (outcomeOf s link)
   unfolding outcomeOf actsOf linkActs tryDeliver
@@ -219,7 +208,7 @@ module _ (s : Simulation) (b : Between 0 s) (early : T (le (s .head .clock .0 .0
 
 -- ---- a sender's turn
 
-module _ (s : Simulation) (i : ℕ) (h : i < s .network .senders) (b : Between (senderPart i) s) (early : T (le (s .head .clock .0 .0) (power 40))) where
+module _ (s : Simulation) (i : ℕ) (h : i < s .network .senders) (b : Between (senderPart i) s) (early : Early (s .head .clock)) where
   some-sender : 1 ≤ s .network .senders
   some-sender = omega (arith, h)
 
@@ -242,10 +231,6 @@ module _ (s : Simulation) (i : ℕ) (h : i < s .network .senders) (b : Between (
       let m = withLine (withWaiting st (set (st .waiting) (placeAfter (st .line .waiting)) p)) (admitted (st .line) (packetBits (st .network) p)) in
       ready m link (arrive-body st (k .body) p l room) tt (line-changes st m refl refl refl refl refl (but st 0 (k .queue))) (k .some)))
       (λ over. ready st link (k .body) tt (but st 0 (k .queue)) (k .some))
-
-  loose-queued : (m : Simulation) (p : Packet) → Loose m p → Loose (requeue m (sender i)) p
-  unfolding requeue
-  loose-queued m p l = record { packet = l .packet; room = l .room }
 
   turn-with : (x : SenderState) → senderAt s i .state ≡ x → OnMoves LandedBy (outcomeWith (sender i) (senderWith s i x))
   turn-with State.WaitingForEnable q = tt
@@ -276,7 +261,7 @@ module _ (s : Simulation) (i : ℕ) (h : i < s .network .senders) (b : Between (
       let st = requeue (withSender s i x) (sender i) in
       let r = recordAt s (sender i) Mark.None (named (u .packet)) Name.None in
       lands (deliver r st (arrives (u .packet)))
-      (arrival st r (u .packet) (sender-ready x (send-body s (b .body) early i h e q zero-is)) (loose-queued (withSender s i x) (u .packet) (send-loose s (b .body) early i h e q zero-is))))
+      (arrival st r (u .packet) (sender-ready x (send-body s (b .body) early i h e q zero-is)) (loose-requeued (withSender s i x) (sender i) (u .packet) (send-loose s (b .body) early i h e q zero-is))))
       (λ z. on-stopped LandedBy (sender i) s (u .number) z))
 
   sender-lands : OnMoves LandedBy (outcomeOf s (sender i))
@@ -285,7 +270,7 @@ module _ (s : Simulation) (i : ℕ) (h : i < s .network .senders) (b : Between (
 
 -- ---- a toggler's turn
 
-module _ (s : Simulation) (i : ℕ) (h : i < s .network .senders) (b : Between (togglerPart i) s) (early : T (le (s .head .clock .0 .0) (power 40))) where
+module _ (s : Simulation) (i : ℕ) (h : i < s .network .senders) (b : Between (togglerPart i) s) (early : Early (s .head .clock)) where
   -- a switched sender reads nothing of the queue
   same-switched : (m : Simulation) (on : Bool) → switchedSender m i on ≡ switchedSender (requeue m (toggler i)) i on
   unfolding requeue
@@ -333,22 +318,13 @@ unfolding outcomeOf actsOf
 nobody-lands s = tt
 
 pub turn-lands : (s : Simulation) (j : ℕ) → Between j s → T (le (s .head .clock .0 .0) (power 40)) → OnMoves LandedBy (outcomeOf s (roleOf (s .network .senders) j))
-unfolding roleOf
-turn-lands s j b early =
-    let n = s .network .senders in
-    let i = (j - 1) / 2 in
-    let F : Role → Type 0 = λ role. OnMoves LandedBy (outcomeOf s role) in
-    let there = cond (eqb (j % 2) 1) (sender i) (toggler i) in
-    cond-elim F (eqb j 0) link (cond (ltb i n) there nobody)
-    (λ first. link-lands s (subst (λ (k : ℕ). Between k s) (eqb-true j 0 first) b) early)
-    (λ other. cond-elim F (ltb i n) there nobody
-    (λ inside. cond-elim F (eqb (j % 2) 1) (sender i) (toggler i)
-    (λ odd. sender-lands s i (ltb-true i n inside) (subst (λ (k : ℕ). Between k s) (odd-part j (eqb-true (j % 2) 1 odd)) b) early)
-    (λ even. toggler-lands s i (ltb-true i n inside) (subst (λ (k : ℕ). Between k s) (even-part j (eqb-false j 0 other) (eqb-false (j % 2) 1 even)) b) early))
-    (λ outside. nobody-lands s))
+turn-lands s j b high = role-at (λ (role : Role). OnMoves LandedBy (outcomeOf s role)) (s .network .senders) j at (nobody-lands s)
   where
-    odd-part : (j : ℕ) → j % 2 ≡ 1 → j ≡ 1 + 2 * ((j - 1) / 2)
-    odd-part j e = omega (arith, e)
+    early : Early (s .head .clock)
+    early = record { low = b .body .clock; high = high }
 
-    even-part : (j : ℕ) → (j ≡ 0 → ⊥) → (j % 2 ≡ 1 → ⊥) → j ≡ 2 + 2 * ((j - 1) / 2)
-    even-part j e f = omega (arith, e, f)
+    at : (role : Role) → Real (s .network .senders) role → j ≡ partOf role → OnMoves LandedBy (outcomeOf s role)
+    at link r e = link-lands s (subst (λ (k : ℕ). Between k s) e b) early
+    at (sender i) r e = sender-lands s i r (subst (λ (k : ℕ). Between k s) e b) early
+    at (toggler i) r e = toggler-lands s i r (subst (λ (k : ℕ). Between k s) e b) early
+    at nobody r e = absurd r

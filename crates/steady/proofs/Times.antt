@@ -1,14 +1,14 @@
--- Times that a sender, a toggler and a meter get: new times and timers, draws, and spans since a past time. Assumes nothing.
-use mathlib.Core.Path.{_≡_, refl, sym, subst}
-use mathlib.Core.Bool.{Bool, true, false, _&&_}
-use Prim.Native.Nat.{ℕ, zero, suc, _-_, _*_, _/_, _≤_}
+-- Times at an early clock: new times, timers, and spans since a past time. Assumes nothing.
+use mathlib.Core.Path.{_≡_, refl}
+use mathlib.Core.Bool.{Bool, true, false}
+use Prim.Native.Nat.{ℕ, _-_, _*_, _≤_}
 use native.Mathlib.Nat.{mul-assoc, mul-le-mul-right, sub-le}
 use native.Mathlib.Nat
 use native.Mathlib.Omega.{arith}
 use borrow.Author.Tests.{eqb-true}
 use lib.Dec.{T, eqb}
 use lib.IntN.{negsuc}
-use lib.Ieee.{Float, Format, binary64, fin, add, sub, lt, le, fits}
+use lib.Ieee.{Float, Format, binary64, fin, add, sub, le, fits}
 use lib.Ieee.Scale.{finite}
 use lib.Ieee.Positive.{num, den}
 use Rattle.quantities.specs.declared.time.Time.{Time}
@@ -18,23 +18,17 @@ use Rattle.quantities.specs.declared.time_span.TimeSpan.{TimeSpan}
 use Rattle.quantities.specs.Doubles.{zeroF, power, least, largest, inRange}
 use Rattle.quantities.specs.Units.{spanOf, since, spanSum}
 use Rattle.quantities.specs.Units.{after as spanAfter}
-use Rattle.quantities.proofs.Order.{le-trans, le-refl, le-known-r, lt→le}
+use Rattle.quantities.proofs.Order.{le-trans, le-refl, le-known-r}
 use Rattle.quantities.proofs.Values.{Is, Rounds, own, le-is, rounds-below, rounds-from-zero, sub-rounds}
-use Rattle.quantities.proofs.Ranges.{within, within-finite, test→within, add-within}
-use Rattle.quantities.proofs.Uniform.{sample-within, draw-fine}
-use Rattle.rand.specs.declared.generator.Rng.{Rng}
-use Rattle.rand.specs.declared.distribution.ContinuousDistribution.{ContinuousDistribution}
-use Rattle.rand.specs.declared.distribution.ContinuousDistribution.the-variants.{Always, Uniform}
-use Rattle.rand.specs.Generator.{outputOf}
-use Rattle.rand.specs.Draws.{sampleOf, unitOf, uniformOf, drawOf, PositiveDraw, redraw}
+use Rattle.quantities.proofs.Ranges.{within, within-wider, within-finite, test→within, add-within}
 use Rattle.meters.specs.Meter.{totalFit}
 use Rattle.components.specs.declared.lossy.Policy.{Policy}
 use Rattle.components.specs.declared.lossy.Policy.the-variants as Policy
 use Rattle.components.specs.declared.lossy.TimerSet.{TimerSet}
 use Rattle.components.specs.NewTime.{timeFine, newTime}
 use Rattle.components.specs.Sender.{timerIn, timerSent}
-use Rattle.remy.specs.Network.{windowFit, gapFit, timesFit, policyFit}
-use Rattle.remy.proofs.Facts.{both-l, both-r, range-low, range-high, range-i}
+use Rattle.remy.specs.Network.{windowFit, gapFit, policyFit}
+use Rattle.remy.proofs.Facts.{both-r, holds, range-low, range-high, range-i}
 use Rattle.remy.proofs.Parts.{new-is}
 use Rattle.remy.proofs.Steps.{cond-elim}
 use Rattle.steady.proofs.Facts.{NotAfter, Held, Past, TimerIfAny}
@@ -47,19 +41,24 @@ pub record Early (clock : Time) : Type 0 where
 pub now-past : (clock : Time) → Early clock → Past clock clock
 now-past clock c = record { low = c .low; high = le-refl (clock .0 .0) (le-known-r zeroF (clock .0 .0) (c .low)) }
 
--- ---- new times: a span of at most 2^20 after the clock
+-- ---- new times
 
-pub new-held : (clock : Time) (span : TimeSpan) → Early clock → within (span .0) (power 20) → newTime clock span .number ≡ 0 → Held (newTime clock span .time)
-new-held clock span c w e =
-    subst Held (sym (new-is clock span e))
-    (add-within binary64 (clock .0 .0) (power 40) (span .0) (power 20) (power 41) (c .low, c .high) w tt tt (unfold add le in tt) tt .1 .1)
+-- a delay, a gap and a draw are at most 2^20; the time that a packet takes to start is at most 2^24
+pub short : (x : Float) → within x (power 20) → within x (power 24)
+short x w = within-wider x (power 20) (power 24) w (unfold le in tt)
 
-pub new-ahead : (clock : Time) (span : TimeSpan) → newTime clock span .number ≡ 0 → NotAfter clock (newTime clock span .time)
+pub new-held : (clock : Time) (span : TimeSpan) → Early clock → within (span .0) (power 24) → Held (spanAfter clock span)
+new-held clock span c w = add-within binary64 (clock .0 .0) (power 40) (span .0) (power 24) (power 41) (c .low, c .high) w tt tt (unfold add le in tt) tt .1 .1
+
+-- where the new time is not refused
+pub new-ahead : (clock : Time) (span : TimeSpan) → newTime clock span .number ≡ 0 → NotAfter clock (spanAfter clock span)
 unfolding newTime
 new-ahead clock span e = by (timeFine clock (spanAfter clock span)) refl
   where
-    by : (b : Bool) → timeFine clock (spanAfter clock span) ≡ b → NotAfter clock (newTime clock span .time)
-    by true f = rw f (subst T (sym (both-r (inRange least largest (spanAfter clock span .0 .0)) (le (clock .0 .0) (spanAfter clock span .0 .0)) f)) tt)
+    by : (b : Bool) → timeFine clock (spanAfter clock span) ≡ b → NotAfter clock (spanAfter clock span)
+    by true f =
+        let late = le (clock .0 .0) (spanAfter clock span .0 .0) in
+        holds late (both-r (inRange least largest (spanAfter clock span .0 .0)) late f)
     by false f = let no : ⊥ = omega (arith, rw f at e) in absurd no
 
 -- ---- timers
@@ -79,11 +78,12 @@ timer-in-ok most gap clock f c =
     cond-elim (λ (x : TimerSet). TimerIfAny (Policy.Timed most gap) clock (x .timer)) (eqb (a .number) 0)
     (record { number = 0; timer = Some (a .time) }) (record { number = a .number; timer = None })
     (λ e. let z = eqb-true (a .number) 0 e in
-    record {
+    rw (new-is clock (spanOf gap) z)
+    (record {
       timed = refl;
-      held = new-held clock (spanOf gap) c (gap-within gap (both-r (windowFit most) (gapFit gap) f)) z;
+      held = new-held clock (spanOf gap) c (short gap (gap-within gap (both-r (windowFit most) (gapFit gap) f)));
       ahead = new-ahead clock (spanOf gap) z;
-    })
+    }))
     (λ e. tt)
 
 pub timer-sent-ok : (policy : Policy) (timer : OptionTime) (clock : Time) → policyFit policy ≡ true → Early clock → TimerIfAny policy clock timer
@@ -93,32 +93,6 @@ timer-sent-ok (Policy.Held w) timer clock f c k = k
 timer-sent-ok (Policy.Grown first most) timer clock f c k = k
 timer-sent-ok (Policy.Timed most gap) (Some t) clock f c k = k
 timer-sent-ok (Policy.Timed most gap) None clock f c k = timer-in-ok most gap clock f c
-
--- ---- draws of an accepted network are in 0..2^20
-
--- an output is below 2^64, so a 4,096th of it is below 2^52
-unit-within : (g : Rng) → within (unitOf g .value) (power 0)
-unfolding unitOf sampleOf outputOf
-unit-within g = sample-within (outputOf g / 4096) (omega arith)
-
-draw-within : (d : ContinuousDistribution) → timesFit d ≡ true → (g : Rng) → within (drawOf d g .value) (power 20)
-unfolding drawOf uniformOf
-draw-within (Always v) h g = (lt→le zeroF v (subst T (sym (both-l (lt zeroF v) (le v (power 20)) h)) tt), subst T (sym (both-r (lt zeroF v) (le v (power 20)) h)) tt)
-draw-within (Uniform lo hi) h g =
-    let ends = both-l (le zeroF lo && lt lo hi) (le hi (power 20)) h in
-    draw-fine (unitOf g .value) lo hi (unit-within g)
-    (subst T (sym (both-l (le zeroF lo) (lt lo hi) ends)) tt, lt→le lo hi (subst T (sym (both-r (le zeroF lo) (lt lo hi) ends)) tt))
-    (subst T (sym (both-r (le zeroF lo && lt lo hi) (le hi (power 20)) h)) tt) .1
-
--- a draw that is spent has the value 0
-pub redraw-within : (tries : ℕ) (d : ContinuousDistribution) → timesFit d ≡ true → (g : Rng) → within (redraw tries d g .value) (power 20)
-unfolding redraw
-redraw-within zero d h g = (unfold le in tt, unfold le in tt)
-redraw-within (suc tries) d h g =
-    let s = drawOf d g in
-    let more = redraw-within tries d h (s .rng) in
-    cond-elim (λ (x : PositiveDraw). within (x .value) (power 20)) (lt zeroF (s .value)) (record { number = 0; value = s .value; rng = s .rng }) (redraw tries d (s .rng))
-    (λ e. draw-within d h g) (λ e. more)
 
 -- ---- spans since a past time
 
@@ -141,7 +115,7 @@ sub-below f x y hi fine t w l =
         let right : m * c * d ≡ m * (c * d) = mul-assoc m c d in
         Nat.le-trans less (rw (left, ← right) order)
 
-pub since-within : (clock t : Time) → Early clock → Past clock t → within (since clock t .0) (power 41)
+since-within : (clock t : Time) → Early clock → Past clock t → within (since clock t .0) (power 41)
 since-within clock t c p =
     sub-below binary64 (clock .0 .0) (t .0 .0) (power 41) (unfold fits in tt) tt (p .low, p .high)
     (le-trans (clock .0 .0) (power 40) (power 41) (c .high) (unfold le in tt))
