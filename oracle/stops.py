@@ -362,5 +362,11 @@ def others():
     yield "a run that meets a refused tick does not count it", [
         "Z", command("R", 0), with_network(loss=NAN), command("R", 3), command("R", 0)], [
         f"run 0 0 {field(3.0)}", f"run 0 9 {field(3.0)}", f"run 0 0 {field(3.0)}"]
+    yield "single ticks, each of the state that the one before returned", [
+        build(WORKED), command("U", 0), command("U", 4), command("U", 3), "T"], [
+        "build 0", f"ticks 0 0 {field(1.0)}", f"ticks 4 0 {field(1.0)}", f"ticks 3 0 {field(3.0)}", MOVED]
+    yield "single ticks up to one that is refused, or idle", [
+        "Z", with_network(loss=NAN), command("U", 3), build(dict(GOOD, senders=0)), command("U", 5)], [
+        f"ticks 0 9 {field(3.0)}", "build 0", f"ticks 0 0 {field(MAX)}"]
     yield "the flow of a sender, and of none", ["Z", command("F", 0), command("F", 1), command("F", 16)], [
         f"flow=0 sent=4 counted=1 rate={field(4.0)} rtt={field(1.0)}", "flow=1 sent=0 counted=0 -", "flow=16 -"]

@@ -5,7 +5,10 @@
 //! the simulation is of no more use, so it is built anew and run up to that tick: this is the
 //! state that the refusal leaves as it was.
 
-use std::panic::{catch_unwind, resume_unwind, AssertUnwindSafe};
+use std::{
+    panic::{catch_unwind, resume_unwind, AssertUnwindSafe},
+    time::{Duration, Instant},
+};
 
 use generativity::{with_guard, Guard};
 use rand_distr::{limit_tries, Spent};
@@ -94,22 +97,9 @@ fn run(
     ticks: u32,
     watch: &mut dyn FnMut(Option<&Record>, &Held),
 ) -> Result<Ended, u8> {
-    let kind = description.policy;
-    let make_policy = move || Policy::new(kind);
+    let make_policy = policies(description);
     let mut rng = Rng::from_seed(description.seed);
-    let root = &mut rng;
-    let builder = SimulatorBuilder::new(guard);
-    let filled = unless_spent(|| {
-        Network::<Effects>::populate_sim(
-            &network(description),
-            &builder,
-            make_policy,
-            root,
-            AverageFlowMeter::new_disabled,
-        );
-    });
-    filled.map_err(|Stopped(number)| number)?;
-    let simulation = builder.build(NothingLogger).expect("every slot is filled");
+    let simulation = built(guard, description, make_policy, &mut rng)?;
     let mut running = Running {
         simulation,
         make_policy,
@@ -146,6 +136,60 @@ fn run(
         held,
         flows,
     })
+}
+
+/// What `ticks` did.
+pub struct Ticks {
+    pub moved: u32,
+    pub clock: f64,
+    pub spent: Duration,
+}
+
+/// The published `tick` so many times, or until it returns false, and nothing between the calls: no
+/// stop that a tick meets is found. The error is the number of a refused build.
+pub fn ticks(description: &Description, count: u32) -> Result<Ticks, u8> {
+    with_guard(|guard| {
+        let mut rng = Rng::from_seed(description.seed);
+        let mut simulation = built(guard, description, policies(description), &mut rng)?;
+        let start = Instant::now();
+        let mut moved = 0;
+        while moved < count && simulation.tick() {
+            moved += 1;
+        }
+        let spent = start.elapsed();
+        // The clock comes of every tick, so none can be left out.
+        let clock = simulation.time().double();
+        Ok(Ticks {
+            moved,
+            clock,
+            spent,
+        })
+    })
+}
+
+fn policies(description: &Description) -> impl Fn() -> Policy + Copy {
+    let kind = description.policy;
+    move || Policy::new(kind)
+}
+
+fn built<'sim: 'a, 'a>(
+    guard: Guard<'sim>,
+    description: &Description,
+    make_policy: impl Fn() -> Policy + Clone + 'a,
+    root: &'a mut Rng,
+) -> Result<Simulation<'sim, 'a>, u8> {
+    let builder = SimulatorBuilder::new(guard);
+    let filled = unless_spent(|| {
+        Network::<Effects>::populate_sim(
+            &network(description),
+            &builder,
+            make_policy,
+            root,
+            AverageFlowMeter::new_disabled,
+        );
+    });
+    filled.map_err(|Stopped(number)| number)?;
+    Ok(builder.build(NothingLogger).expect("every slot is filled"))
 }
 
 fn network(description: &Description) -> RemyNetwork {

@@ -20,17 +20,21 @@ fn main() -> ExitCode {
     let arguments: Vec<String> = std::env::args().skip(1).collect();
     let words: Vec<&str> = arguments.iter().map(String::as_str).collect();
     let (mode, always_patched) = match words[..] {
+        ["ticks", count] => return ended(ticks(count)),
         [mode] => (mode, false),
         [mode, "--patched"] => (mode, true),
         _ => return usage(),
     };
-    let done = match mode {
+    ended(match mode {
         "run" => describe(States::None, always_patched),
         "held" => describe(States::Lines, always_patched),
         "digest" => describe(States::Digests, always_patched),
         "meters" => meters(),
         _ => return usage(),
-    };
+    })
+}
+
+fn ended(done: io::Result<()>) -> ExitCode {
     match done {
         Ok(()) => ExitCode::SUCCESS,
         Err(error) => {
@@ -42,21 +46,31 @@ fn main() -> ExitCode {
 
 fn usage() -> ExitCode {
     eprintln!("usage: oracle run|held|digest [--patched] < description");
+    eprintln!("       oracle ticks COUNT < description");
     eprintln!("       oracle meters < script");
     ExitCode::from(2)
 }
 
-fn describe(states: States, always_patched: bool) -> io::Result<()> {
+/// The description on standard input, or the number of its stop.
+fn description() -> io::Result<Result<Description, u8>> {
     let mut text = Vec::new();
     // One byte more than the reader takes, so that a longer text is seen to be longer.
     io::stdin().take(4097).read_to_end(&mut text)?;
-    let mut out = io::BufWriter::new(io::stdout().lock());
     let Some(description) = Description::read(&text) else {
-        return writeln!(out, "stop=15");
+        return Ok(Err(15));
     };
-    if let Some(number) = description.refused() {
-        return writeln!(out, "stop={number}");
-    }
+    Ok(match description.refused() {
+        Some(number) => Err(number),
+        None => Ok(description),
+    })
+}
+
+fn describe(states: States, always_patched: bool) -> io::Result<()> {
+    let mut out = io::BufWriter::new(io::stdout().lock());
+    let description = match description()? {
+        Ok(description) => description,
+        Err(number) => return writeln!(out, "stop={number}"),
+    };
     let mut shown = Ok(());
     let ended = play(&description, always_patched, &mut |record, held| {
         if shown.is_ok() {
@@ -104,6 +118,26 @@ fn fnv_1a(bytes: &[u8]) -> u64 {
     bytes.iter().fold(0xcbf2_9ce4_8422_2325, |hash, byte| {
         (hash ^ u64::from(*byte)).wrapping_mul(0x0000_0100_0000_01b3)
     })
+}
+
+/// The published files as they are, with nothing of the harness between the ticks.
+fn ticks(count: &str) -> io::Result<()> {
+    let count = count.parse().map_err(io::Error::other)?;
+    let done = match description()? {
+        Ok(description) if description.bits != PUBLISHED_BITS => {
+            return Err(io::Error::other("ticks takes packets of 11200 bits"));
+        }
+        Ok(description) => published::session::ticks(&description, count),
+        Err(number) => Err(number),
+    };
+    match done {
+        Ok(done) => {
+            let (clock, spent) = (text::hex(done.clock), done.spent.as_nanos());
+            println!("ticks {} {clock} {spent}", done.moved);
+        }
+        Err(number) => println!("stop={number}"),
+    }
+    Ok(())
 }
 
 /// The patched copy answers, since there an amount counts bits.

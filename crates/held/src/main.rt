@@ -12,6 +12,8 @@
 //     T                      one tick: number, whether it moved, whether any field of the state
 //                            changed, and its record where it did not move
 //     R count                a run: how many ticks, number, clock
+//     U count                so many single ticks, each of the state that the one before returned, or
+//                            until one does not move: how many moved, number, clock
 //     A                      the held state
 //     F i                    the flow of sender i
 //     J clock span           the time that is a span after the clock
@@ -112,6 +114,7 @@ fn changed(text: &[u8], at: usize, st: Simulation) -> Simulation {
         b'Q' => edit::queue(text, at, st),
         b'T' => ticked(st),
         b'R' => ran(text, at, st),
+        b'U' => stepped(text, at, st),
         _ => {
             told(text, at, st);
             st
@@ -161,10 +164,33 @@ fn choose(out: Sink, first: bool, a: &[u8], b: &[u8]) -> Sink {
 fn ran(text: &[u8], at: usize, st: Simulation) -> Simulation {
     let r = simulation::run(st, narrow(text, at, 0));
     let after = r.simulation;
-    let a = decimal(put(printed(), b"run "), r.done as u64);
-    let b = decimal(put(a, b" "), r.number as u64);
-    done(moment(put(b, b" "), simulation::time(after)));
+    counted(put(printed(), b"run "), r.done, r.number, after);
     after
+}
+
+// So many single ticks, or until one does not move.
+fn stepped(text: &[u8], at: usize, start: Simulation) -> Simulation {
+    let count = narrow(text, at, 0);
+    let mut st = start;
+    let mut moved = 0;
+    while moved < count {
+        let t = simulation::tick(st);
+        st = t.simulation;
+        if !t.moved {
+            counted(put(printed(), b"ticks "), moved, t.number, st);
+            return st;
+        }
+        moved += 1;
+    }
+    counted(put(printed(), b"ticks "), moved, 0, st);
+    st
+}
+
+// How many ticks moved, the last number, and the clock.
+fn counted(out: Sink, moved: u32, number: u32, st: Simulation) {
+    let a = decimal(out, moved as u64);
+    let b = decimal(put(a, b" "), number as u64);
+    done(moment(put(b, b" "), simulation::time(st)));
 }
 
 // The commands that change nothing.
