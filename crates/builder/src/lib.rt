@@ -11,7 +11,6 @@ mod state;
 use crate::parts::make;
 use crate::queue::pick_next;
 use crate::queue::queue_all;
-use crate::state::empty_simulation;
 use crate::state::fresh;
 use components::LossySender;
 use components::Toggler;
@@ -23,6 +22,7 @@ use remy::Built;
 use remy::Head;
 use remy::Next;
 use remy::RemyNetwork;
+pub use state::empty_simulation;
 
 // A refused build: the number, and the empty simulation.
 fn refuse(number: u32) -> Built

@@ -63,7 +63,7 @@ pub fn report_of(text: &[u8]) -> Report
     match description::read(text) {
         ReadDescription::Given(d) => begun(d),
         ReadDescription::Malformed => {
-            let simulation = builder::state::empty_simulation();
+            let simulation = builder::empty_simulation();
             Report {
                 stage: Stage::Refused(15),
                 simulation,
