@@ -8,6 +8,7 @@ use lib.Dec.{leb, ltb, eqb}
 use lib.Ieee.{le}
 use borrow.Author.Tests.{leb-true, ltb-true, eqb-true, not-false}
 use Rattle.quantities.specs.Doubles.{zeroF}
+use Rattle.components.specs.declared.ring.Ring.{Ring}
 use Rattle.components.specs.declared.link.Line.{Line}
 use Rattle.components.specs.Ring.{places}
 use Rattle.remy.specs.declared.network.RemyNetwork.{RemyNetwork}
@@ -16,11 +17,20 @@ use Rattle.remy.specs.Network.{networkStop}
 use Rattle.remy.specs.Fit.{held}
 use Rattle.remy.proofs.Facts.{both-l, both-r}
 use Rattle.remy.proofs.Networks.{fit-network, few-senders, few-bits}
-use Rattle.fitness.specs.Tests.{Framed, ringsTest, clockHeld, frameTest}
+use Rattle.fitness.specs.Tests.{ringsTest, clockHeld, frameTest}
 
 -- a product of numbers below their bounds
 pub product-fits : (a b m n : ℕ) → a ≤ m → b ≤ n → m * n < 2 ^ 64 → a * b < 2 ^ 64
 product-fits a b m n h k f = let p : a * b ≤ m * n = mul-le-mul h k in omega arith
+
+-- what later tests rely on, which `frameTest` shows: few senders and bits, and rings with starts and counts in their ranges
+pub record Framed (bits n : ℕ) (waits moves : Ring) : Type 0 where
+  pub small : bits ≤ 16777216
+  pub few : n ≤ 16
+  pub wstart : waits .start < 512
+  pub wcount : waits .count ≤ 512
+  pub mstart : moves .start < 512
+  pub mcount : moves .count ≤ 512
 
 pub framed : (n : RemyNetwork) (l : Line) → networkStop n ≡ 0 → ringsTest l ≡ true → Framed (n .bits) (n .senders) (l .waiting) (l .«on_line»)
 unfolding ringsTest

@@ -1,9 +1,11 @@
 -- The groups of tests together are `fit`; and what each result of a group says of it. Assumes nothing.
-use Prim.Native.Nat.{ℕ, _+_, _*_, _<_}
+use Prim.Native.Nat.{ℕ, _+_, _*_, _≤_, _<_}
 use mathlib.Core.Path.{_≡_, refl, sym, ap, ap₂, _∙_}
 use mathlib.Core.Bool.{Bool, true, false, _&&_, _||_}
 use mathlib.Core.List.{List}
+use native.Mathlib.Omega.{arith}
 use lib.Dec.{leb, eqb}
+use lib.ListN.{getD}
 use lib.Ieee.{le}
 use Rattle.quantities.specs.declared.time.OptionTime.{OptionTime}
 use Rattle.quantities.specs.declared.time.OptionTime.the-variants.{Some}
@@ -19,7 +21,8 @@ use Rattle.remy.specs.Queue.{nextTimeOf}
 use Rattle.remy.specs.Fit.{every, upTo, networkFit, ringsFit, packetFit, packetsFit, bitsFit, clockFit, held, heldIfAny, heldSender, heldQueued, isNext, heldTimesFit, sinceStart, startedFit, meterStartFit, pastFit, totalsFit, sumsFit, countOf, recordsFit, rising, dueFit, ackFit, countsFit, windowsFit, timersFit, togglersAgree, metersAgree, meterBitsFit, sameTime, nextFit, queueFit, fit}
 use Rattle.remy.proofs.Facts.{FitState, fit-state, both-l, both-r, both-i, upTo-at}
 use Rattle.remy.specs.declared.simulation.Next.the-variants as Next
-use Rattle.fitness.specs.Tests.{ringsTest, clockHeld, frameTest, packetTest, transitTest, waitingTest, onLineTest, dueTest, packetsTest, firstDue, waitingOf, onLineOf, sendersTest, partTime, placeTest, emptyTest, nextTest, placesTest, queueTest}
+use Rattle.fitness.specs.Tests.{ringsTest, clockHeld, frameTest, packetTest, transitTest, waitingTest, onLineTest, dueTest, packetsTest, firstDue, waitingOf, onLineOf, Counts, sendersTest, partTime, placeTest, emptyTest, nextTest, placesTest, queueTest}
+use Rattle.fitness.proofs.Members.{senders-same}
 use Rattle.fitness.proofs.Clauses.{same-test, and-2, and-3, and-4, and-5, every-imp, every-and, every-map, upTo-i, bits-product, count-tally, count-map, packet-clauses, clauses-packet, SenderClauses, sender-clauses, clauses-sender, own-same, place-same}
 
 module _ (s : Simulation) where
@@ -31,10 +34,16 @@ module _ (s : Simulation) where
   abbrev packets : Bool
   packets = packetsTest (s .senders) (s .network .senders) (s .head .clock) (s .waiting) (s .line .waiting) (s .«on_line») (s .line .«on_line»)
 
+  -- the packets of sender i that wait, and those on the line
+  abbrev waits-of : ℕ → ℕ
+  waits-of i = waitingOf i (s .waiting) (s .line .waiting)
+
+  abbrev moves-of : ℕ → ℕ
+  moves-of i = onLineOf i (s .«on_line») (s .line .«on_line»)
+
   abbrev senders : Bool
   senders =
-      sendersTest (s .network .policy) (s .network .bits) (s .head .clock) (s .waiting) (s .line .waiting) (s .«on_line») (s .line .«on_line») (s .network .senders)
-      (s .senders) (s .togglers) (s .meters)
+      sendersTest (s .network .policy) (s .network .bits) (s .head .clock) waits-of moves-of (s .network .senders) (s .senders) (s .togglers) (s .meters)
 
   abbrev queue : Bool
   queue =
@@ -143,18 +152,21 @@ module _ (s : Simulation) where
 
   -- ---- senders
 
-  abbrev waits-of : ℕ → ℕ
-  waits-of i = waitingOf i (s .waiting) (s .line .waiting)
-
-  abbrev moves-of : ℕ → ℕ
-  moves-of i = onLineOf i (s .«on_line») (s .line .«on_line»)
-
   counts-same : (i : ℕ)
       → leb (meterAt s i .records + waits-of i + moves-of i) (senderAt s i .«packets_sent»)
       ≡ leb (meterAt s i .records + countOf i (waitingItems s) + countOf i (onLinePackets s)) (senderAt s i .«packets_sent»)
   unfolding waitingOf onLineOf
   counts-same i =
       ap₂ (λ (a b : ℕ). leb (meterAt s i .records + a + b) (senderAt s i .«packets_sent»)) (sym (count-tally i (waitingItems s))) (sym (count-map i (onLineItems s)))
+
+  -- the test through the counts of the rings is the test
+  pub by-counts : s .network .senders ≤ 16 → (waits moves : List ℕ) → Counts waits-of waits → Counts moves-of moves → (r : Bool)
+      → r
+      ≡ sendersTest (s .network .policy) (s .network .bits) (s .head .clock) (λ i. getD waits i 0) (λ i. getD moves i 0) (s .network .senders) (s .senders) (s .togglers)
+      (s .meters)
+      → r ≡ senders
+  by-counts few waits moves w m r e =
+      e ∙ senders-same _ _ _ _ _ _ _ _ waits-of moves-of (s .network .senders) (λ i h. w .each i (omega arith)) (λ i h. m .each i (omega arith))
 
   from-senders : senders ≡ true → (i : ℕ) → i < s .network .senders → SenderClauses s i (waits-of i) (moves-of i)
   unfolding sendersTest

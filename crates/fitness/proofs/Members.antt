@@ -11,7 +11,6 @@ use Rattle.meters.specs.declared.meter.AverageFlowMeter.{AverageFlowMeter}
 use Rattle.meters.specs.Meter.{isOn}
 use Rattle.components.specs.declared.packet.Packet.{Packet}
 use Rattle.components.specs.declared.packet.Transit.{Transit}
-use Rattle.components.specs.declared.ring.Ring.{Ring}
 use Rattle.components.specs.declared.link.Line.{Line}
 use Rattle.components.specs.declared.lossy.Policy.{Policy}
 use Rattle.components.specs.declared.lossy.LossySender.{LossySender}
@@ -21,8 +20,8 @@ use Rattle.components.specs.Queue.{noQueued}
 use Rattle.remy.specs.declared.simulation.Next.{Next}
 use Rattle.remy.specs.State.{noSender, noToggler, noMeter}
 use Rattle.remy.specs.Fit.{held}
-use Rattle.fitness.specs.Tests.{sentTest, packetTest, transitTest, waitingOf, onLineOf, senderTest, sendersTest, placeTest, emptyTest, partTime, placesTest}
-use Rattle.fitness.proofs.Turns.{up-goes, up-stops, up-done}
+use Rattle.fitness.specs.Tests.{sentTest, packetTest, transitTest, senderTest, sendersTest, placeTest, emptyTest, partTime, placesTest}
+use Rattle.fitness.proofs.Turns.{up-goes, up-stops, up-done, up-same}
 
 -- ---- packets
 
@@ -46,27 +45,33 @@ module _ (senders : List LossySender) (n : ℕ) (clock : Time) (x : Transit) whe
 
 -- ---- senders
 
-module _ (policy : Policy) (bits : ℕ) (clock : Time) (waiting : List Packet) (waits : Ring) (onLine : List Transit) (moves : Ring) (senders : List LossySender) (togglers : List Toggler) (meters : List AverageFlowMeter) where
-  pub senders-none : sendersTest policy bits clock waiting waits onLine moves 0 senders togglers meters ≡ true
+module _ (policy : Policy) (bits : ℕ) (clock : Time) (waiting onLine : ℕ → ℕ) (senders : List LossySender) (togglers : List Toggler) (meters : List AverageFlowMeter) where
+  pub senders-none : sendersTest policy bits clock waiting onLine 0 senders togglers meters ≡ true
   unfolding sendersTest
   senders-none = refl
 
   -- the i-th sender passes or fails
-  module _ (i a b : ℕ) (ea : a ≡ waitingOf i waiting waits) (eb : b ≡ onLineOf i onLine moves) (r : Bool)
-      (er : r ≡ senderTest policy bits clock (getD senders i noSender) (getD togglers i noToggler) (getD meters i noMeter) a b) where
-    pub senders-goes : sendersTest policy bits clock waiting waits onLine moves i senders togglers meters ≡ true → r ≡ true
-        → sendersTest policy bits clock waiting waits onLine moves (i + 1) senders togglers meters ≡ true
+  module _ (i : ℕ) (r : Bool)
+      (er : r ≡ senderTest policy bits clock (getD senders i noSender) (getD togglers i noToggler) (getD meters i noMeter) (waiting i) (onLine i)) where
+    pub senders-goes : sendersTest policy bits clock waiting onLine i senders togglers meters ≡ true → r ≡ true
+        → sendersTest policy bits clock waiting onLine (i + 1) senders togglers meters ≡ true
     unfolding sendersTest
-    senders-goes e t = up-goes _ i e (rw (← ea, ← eb, ← er) t)
+    senders-goes e t = up-goes _ i e (sym er ∙ t)
 
-    pub senders-stops : (n : ℕ) → i < n → r ≡ false → false ≡ sendersTest policy bits clock waiting waits onLine moves n senders togglers meters
+    pub senders-stops : (n : ℕ) → i < n → r ≡ false → false ≡ sendersTest policy bits clock waiting onLine n senders togglers meters
     unfolding sendersTest
-    senders-stops n h t = up-stops _ n i h (rw (← ea, ← eb, ← er) t)
+    senders-stops n h t = up-stops _ n i h (sym er ∙ t)
 
-  pub senders-done : (n i : ℕ) → sendersTest policy bits clock waiting waits onLine moves i senders togglers meters ≡ true → i ≤ n → n ≤ i
-      → true ≡ sendersTest policy bits clock waiting waits onLine moves n senders togglers meters
+  pub senders-done : (n i : ℕ) → sendersTest policy bits clock waiting onLine i senders togglers meters ≡ true → i ≤ n → n ≤ i
+      → true ≡ sendersTest policy bits clock waiting onLine n senders togglers meters
   unfolding sendersTest
   senders-done n i e h k = up-done _ n i e h k
+
+  -- equal counts of the n senders give the same test
+  pub senders-same : (waits moves : ℕ → ℕ) (n : ℕ) → ((i : ℕ) → i < n → waiting i ≡ waits i) → ((i : ℕ) → i < n → onLine i ≡ moves i)
+      → sendersTest policy bits clock waiting onLine n senders togglers meters ≡ sendersTest policy bits clock waits moves n senders togglers meters
+  unfolding sendersTest
+  senders-same waits moves n a b = up-same _ _ n (λ i h. rw (a i h, b i h))
 
 -- ---- places of the queue
 

@@ -4,15 +4,19 @@ use mathlib.Core.Path.{_≡_, refl, sym, ap, subst, _∙_}
 use mathlib.Core.Logic.{inl, inr}
 use mathlib.Core.Bool.{Bool, true, false, _&&_, and-false}
 use mathlib.Core.List.{List, [], _∷_}
+use native.Mathlib.Decide.{ℕ-discrete}
 use native.Mathlib.Nat.{zero-add, add-zero, add-assoc, not-suc-le-zero, eq-or-lt-of-le, le-of-suc-le-suc}
 use native.Mathlib.Numerals.{add-one}
 use native.Mathlib.Omega.{arith}
-use lib.ListN.{getD}
+use lib.Dec.{eqb}
+use lib.ListN.{length, getD, set, replicate, length-set, length-replicate, getD-replicate}
+use lib.Seq.{getD-set-same, getD-set-other}
 use lib.Ieee.{le}
+use borrow.Author.Tests.{eq-eqb, ne-eqb}
 use Rattle.components.specs.declared.packet.Transit.{Transit}
 use Rattle.components.specs.Ring.{places, itemsFrom}
 use Rattle.remy.specs.Fit.{every, upTo, rising}
-use Rattle.fitness.specs.Tests.{tally}
+use Rattle.fitness.specs.Tests.{tally, Counts}
 
 -- ---- the members of a ring from the i-th on
 
@@ -48,19 +52,85 @@ module _ {A : Type 0} (f : A → Bool) (d : A) (slots : List A) (start count i :
 -- ---- a count of the members that pass a test
 
 module _ {A : Type 0} (f : A → Bool) (d : A) (slots : List A) (start count i many : ℕ) where
-  pub tally-counts : i < count → f (getD slots ((start + i) % places) d) ≡ true
+  tally-counts : i < count → f (getD slots ((start + i) % places) d) ≡ true
       → many + 1 + tally f (rest d slots start count (i + 1)) ≡ many + tally f (rest d slots start count i)
   tally-counts h e = sym (ap (λ (l : List A). many + tally f l) (rest-next d slots start count i h) ∙ rw e (sym (add-assoc many 1 _)))
 
-  pub tally-passes : i < count → f (getD slots ((start + i) % places) d) ≡ false
+  tally-passes : i < count → f (getD slots ((start + i) % places) d) ≡ false
       → many + tally f (rest d slots start count (i + 1)) ≡ many + tally f (rest d slots start count i)
   tally-passes h e =
       let others = tally f (rest d slots start count (i + 1)) in
       let z : 0 + others ≡ others = zero-add others in
       sym (ap (λ (l : List A). many + tally f l) (rest-next d slots start count i h) ∙ rw e (ap (λ (n : ℕ). many + n) z))
 
-  pub tally-done : count ≤ i → many ≡ many + tally f (rest d slots start count i)
+  tally-done : count ≤ i → many ≡ many + tally f (rest d slots start count i)
   tally-done h = sym (ap (λ (l : List A). many + tally f l) (rest-none d slots start count i h) ∙ add-zero many)
+
+-- ---- a count for each of 16 owners of the members; a member of another owner is counted nowhere
+
+module _ {A : Type 0} (owner : A → ℕ) (d : A) (slots : List A) (start count : ℕ) where
+  abbrev pub of : ℕ → A → Bool
+  of k x = eqb (owner x) k
+
+  -- after the first i members: what is counted and what is in the rest are all
+  pub record Counted (counts : List ℕ) (i : ℕ) : Type 0 where
+    pub full : length counts ≡ 16
+    pub few : (k : ℕ) → k < 16 → getD counts k 0 ≤ i
+    pub all : (k : ℕ) → k < 16 → getD counts k 0 + tally (of k) (rest d slots start count i) ≡ tally (of k) (itemsFrom d slots start count)
+
+  pub counted-none : Counted (replicate 16 0) 0
+  counted-none = record {
+    full = length-replicate {A = ℕ} 16 0;
+    few = λ k h. rw (none k h) (omega arith);
+    all = λ k h. rw (none k h, rest-all d slots start count) (zero-add _);
+  }
+    where
+      none : (k : ℕ) → k < 16 → getD {A = ℕ} (replicate 16 0) k 0 ≡ 0
+      none k h = getD-replicate {A = ℕ} 16 k 0 0 h
+
+  module _ (counts : List ℕ) (i : ℕ) (c : Counted counts i) (h : i < count) where
+    abbrev owns : ℕ
+    owns = owner (getD slots ((start + i) % places) d)
+
+    pub counted-one : owns < 16 → Counted (set counts owns (getD counts owns 0 + 1)) (i + 1)
+    counted-one g = record {
+      full = length-set counts owns _ ∙ c .full;
+      few = λ k l. few k l (ℕ-discrete k owns);
+      all = λ k l. all k l (ℕ-discrete k owns);
+    }
+      where
+        stored : getD (set counts owns (getD counts owns 0 + 1)) owns 0 ≡ getD counts owns 0 + 1
+        stored = let full = c .full in getD-set-same counts owns _ 0 (omega (arith, full))
+
+        few : (k : ℕ) → k < 16 → Dec (k ≡ owns) → getD (set counts owns (getD counts owns 0 + 1)) k 0 ≤ i + 1
+        few k l (yes same) = let e = c .few owns g in rw (same, stored) (omega (arith, e))
+        few k l (no other) = let e = c .few k l in rw (getD-set-other counts owns k _ 0 other) (omega (arith, e))
+
+        all : (k : ℕ) → k < 16 → Dec (k ≡ owns)
+            → getD (set counts owns (getD counts owns 0 + 1)) k 0 + tally (of k) (rest d slots start count (i + 1)) ≡ tally (of k) (itemsFrom d slots start count)
+        all k l (yes same) =
+            subst (λ (j : ℕ). getD (set counts owns (getD counts owns 0 + 1)) j 0 + tally (of j) (rest d slots start count (i + 1)) ≡ tally (of j) (itemsFrom d slots start count))
+            (sym same)
+            (ap (λ (n : ℕ). n + tally (of owns) (rest d slots start count (i + 1))) stored
+            ∙ tally-counts (of owns) d slots start count i _ h (eq-eqb owns owns refl)
+            ∙ c .all owns g)
+        all k l (no other) =
+            ap (λ (n : ℕ). n + tally (of k) (rest d slots start count (i + 1))) (getD-set-other counts owns k _ 0 other)
+            ∙ tally-passes (of k) d slots start count i _ h (ne-eqb owns k (λ (e : owns ≡ k). other (sym e)))
+            ∙ c .all k l
+
+    pub counted-other : 16 ≤ owns → Counted counts (i + 1)
+    counted-other g = record {
+      full = c .full;
+      few = λ k l. let e = c .few k l in omega (arith, e);
+      all = λ k l. tally-passes (of k) d slots start count i _ h (ne-eqb owns k (λ (e : owns ≡ k). omega (arith, e, g, l))) ∙ c .all k l;
+    }
+
+  pub counted-all : (counts : List ℕ) (i : ℕ) → Counted counts i → i ≤ 512 → count ≤ i → Counts (λ k. tally (of k) (itemsFrom d slots start count)) counts
+  counted-all counts i c m h = record {
+    each = λ k l. tally-done (of k) d slots start count i _ h ∙ c .all k l;
+    most = record { few = λ k l. let e = c .few k l in omega (arith, e) };
+  }
 
 -- ---- due times that do not fall
 
@@ -108,3 +178,7 @@ module _ (f : ℕ → Bool) where
 
   pub up-done : (n i : ℕ) → upTo i f ≡ true → i ≤ n → n ≤ i → true ≡ upTo n f
   up-done n i e h k = let same : n ≡ i = omega arith in rw (same, e)
+
+pub up-same : (f g : ℕ → Bool) (n : ℕ) → ((i : ℕ) → i < n → f i ≡ g i) → upTo n f ≡ upTo n g
+up-same f g zero e = refl
+up-same f g (suc n) e = rw (up-same f g n (λ i h. e i (omega arith)), e n (omega arith))

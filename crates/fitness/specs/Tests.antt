@@ -2,6 +2,7 @@
 -- one for each sender with its toggler and meter, and one for each place of the queue. Definitions only. Their conjunction is `fit` (proofs/Groups.antt),
 -- which the contract of `is_fit` cites; the contracts of its parts cite these.
 use Prim.Native.Nat.{ℕ, _+_, _*_, _≤_, _<_}
+use mathlib.Core.Path.{_≡_}
 use mathlib.Core.Bool.{Bool, true, not, _&&_, _||_, Bool·beq, cond}
 use mathlib.Core.List.{List, [], _∷_}
 use lib.Dec.{leb, ltb, eqb}
@@ -60,15 +61,6 @@ frameTest n h l =
     && clockHeld h
     && held (l .«earliest_transmit»)
 
--- what later tests rely on, which `frameTest` shows: few senders and bits, and rings with starts and counts in their ranges
-pub record Framed (bits n : ℕ) (waits moves : Ring) : Type 0 where
-  pub small : bits ≤ 16777216
-  pub few : n ≤ 16
-  pub wstart : waits .start < 512
-  pub wcount : waits .count ≤ 512
-  pub mstart : moves .start < 512
-  pub mcount : moves .count ≤ 512
-
 -- no packet on the line is due later than a time
 unfoldable pub soonTest : Time → List Transit → Ring → Bool
 soonTest latest slots ring = every (λ x. le (x .due .0 .0) (latest .0 .0)) (items noTransit slots ring)
@@ -122,6 +114,15 @@ waitingOf i slots ring = tally (λ p. eqb (p .sender) i) (items noPacket slots r
 unfoldable pub onLineOf : ℕ → List Transit → Ring → ℕ
 onLineOf i slots ring = tally (λ x. eqb (x .packet .sender) i) (items noTransit slots ring)
 
+-- no count of the 16 senders is above the places of a ring
+pub record Few (counts : List ℕ) : Type 0 where
+  pub few : (i : ℕ) → i < 16 → getD counts i 0 ≤ 512
+
+-- the counts of the 16 senders in a ring: element i is sender i's; a packet of another sender is counted nowhere
+pub record Counts (of : ℕ → ℕ) (counts : List ℕ) : Type 0 where
+  pub each : (i : ℕ) → i < 16 → getD counts i 0 ≡ of i
+  pub most : Few counts
+
 -- ---- a sender with its toggler and meter
 
 -- a timer is held, and its policy is timed
@@ -162,14 +163,13 @@ senderTest policy bits clock s t m waiting onLine =
     && sentCountTest (s .«packets_sent») (m .records) waiting onLine
     && agreeTest (t .enabled) (s .state) (m .«current_start»)
 
--- the first n senders
-module _ (policy : Policy) (bits : ℕ) (clock : Time) (waiting : List Packet) (waits : Ring) (onLine : List Transit) (moves : Ring) where
+-- the first n senders, where so many of sender i's packets wait and so many are on the line
+module _ (policy : Policy) (bits : ℕ) (clock : Time) (waiting onLine : ℕ → ℕ) where
   unfoldable pub sendersTest : ℕ → List LossySender → List Toggler → List AverageFlowMeter → Bool
   sendersTest n senders togglers meters =
       upTo n
       (λ i.
-      senderTest policy bits clock (getD senders i noSender) (getD togglers i noToggler) (getD meters i noMeter) (waitingOf i waiting waits)
-      (onLineOf i onLine moves))
+      senderTest policy bits clock (getD senders i noSender) (getD togglers i noToggler) (getD meters i noMeter) (waiting i) (onLine i))
 
 -- ---- the queue
 

@@ -1,6 +1,6 @@
 ghost use mathlib.Core.Path.{_≡_};
 ghost use Prim.Native.Nat.{_≤_, _<_};
-ghost use Rattle.fitness.specs.Tests.{sentTest, waitingTest, onLineTest, dueTest, packetsTest, waitingOf, onLineOf, firstDue};
+ghost use Rattle.fitness.specs.Tests.{sentTest, waitingTest, onLineTest, dueTest, packetsTest, waitingOf, onLineOf, Counts, firstDue};
 use crate::frame::past_fit;
 use crate::frame::time_held;
 use components::LossySender;
@@ -148,49 +148,53 @@ pub fn first_due(on_line: [Transit; 512], ring: Ring) -> Time
     first.due
 }
 
-// How many of a sender's packets wait.
+// How many packets of each sender wait; those of a sender from 16 on are counted nowhere.
 //
 // `pub` within this crate; `is_fit` has tested the rings.
-pub fn waiting_of(sender: u32, waiting: [Packet; 512], ring: Ring) -> usize
+pub fn waiting_counts(waiting: [Packet; 512], ring: Ring) -> [usize; 16]
     requires { ⌜ (ring .start < 512) × (ring .count ≤ 512) ⌝ }
-    ensures { λ r. ⌜ (r ≡ waitingOf sender waiting ring) × (r ≤ 512) ⌝ }
+    ensures { λ r. ⌜ Counts (λ k. waitingOf k waiting ring) r ⌝ }
 {
     let start = ring.start;
     let count = ring.count;
-    let mut many: usize = 0;
+    let mut counts: [usize; 16] = [0; 16];
     let mut i = 0;
     while i < count {
         let packet = waiting[(start + i) % 512];
-        if packet.sender == sender {
-            many += 1;
+        let k = packet.sender as usize;
+        if k < 16 {
+            let c = counts[k];
+            counts[k] = c + 1;
             i += 1;
         } else {
             i += 1;
         }
     }
-    many
+    counts
 }
 
-// How many of a sender's packets are on the line.
+// How many packets of each sender are on the line; those of a sender from 16 on are counted nowhere.
 //
 // `pub` within this crate; `is_fit` has tested the rings.
-pub fn on_line_of(sender: u32, on_line: [Transit; 512], ring: Ring) -> usize
+pub fn on_line_counts(on_line: [Transit; 512], ring: Ring) -> [usize; 16]
     requires { ⌜ (ring .start < 512) × (ring .count ≤ 512) ⌝ }
-    ensures { λ r. ⌜ (r ≡ onLineOf sender «on_line» ring) × (r ≤ 512) ⌝ }
+    ensures { λ r. ⌜ Counts (λ k. onLineOf k «on_line» ring) r ⌝ }
 {
     let start = ring.start;
     let count = ring.count;
-    let mut many: usize = 0;
+    let mut counts: [usize; 16] = [0; 16];
     let mut i = 0;
     while i < count {
         let transit = on_line[(start + i) % 512];
         let packet = transit.packet;
-        if packet.sender == sender {
-            many += 1;
+        let k = packet.sender as usize;
+        if k < 16 {
+            let c = counts[k];
+            counts[k] = c + 1;
             i += 1;
         } else {
             i += 1;
         }
     }
-    many
+    counts
 }

@@ -1,22 +1,18 @@
 ghost use mathlib.Core.Path.{_≡_};
 ghost use mathlib.Core.Bool.{Bool·beq};
-ghost use Prim.Native.Nat.{_≤_, _<_};
+ghost use Prim.Native.Nat.{_≤_};
+ghost use lib.ListN.{getD};
 ghost use Rattle.meters.specs.Meter.{isOn};
 ghost use Rattle.remy.specs.Fit.{isTimed, senderOn};
-ghost use Rattle.fitness.specs.Tests.{Framed, timerTest, enabledTest, stateTest, startTest, meterTest, agreeTest, sentCountTest, senderTest, sendersTest};
+ghost use Rattle.fitness.specs.Tests.{Few, timerTest, enabledTest, stateTest, startTest, meterTest, agreeTest, sentCountTest, senderTest, sendersTest};
 use crate::frame::past_fit;
 use crate::frame::time_held;
 use crate::network::window_fit;
-use crate::packets::on_line_of;
-use crate::packets::waiting_of;
 use components::Enabled;
 use components::LossySender;
-use components::Packet;
 use components::Policy;
-use components::Ring;
 use components::SenderState;
 use components::Toggler;
-use components::Transit;
 use meters::AverageFlowMeter;
 use quantities::OptionTime;
 use quantities::Time;
@@ -193,32 +189,32 @@ fn sender_fit(
     agree(toggler.enabled, state, start)
 }
 
-// Whether the first n senders, with their togglers and meters, are fit.
+// Whether the first n senders, with their togglers and meters, are fit, where element i of the counts
+// is how many of sender i's packets wait and how many are on the line.
 //
-// `pub` within this crate; `is_fit` has tested the network and the rings.
+// `pub` within this crate; `is_fit` has tested the network and counted over rings of 512 places.
 pub fn senders_fit(
     policy: Policy,
     bits: u64,
     clock: Time,
-    waiting: [Packet; 512],
-    waits: Ring,
-    on_line: [Transit; 512],
-    moves: Ring,
+    waiting: [usize; 16],
+    on_line: [usize; 16],
     n: u32,
     senders: [LossySender; 16],
     togglers: [Toggler; 16],
     meters: [AverageFlowMeter; 16],
 ) -> bool
-    requires { ⌜ Framed bits n waits moves ⌝ }
-    ensures { λ r. ⌜ r ≡ sendersTest policy bits clock waiting waits «on_line» moves n senders togglers meters ⌝ }
+    requires { ⌜ (bits ≤ 16777216) × (n ≤ 16) × Few waiting × Few «on_line» ⌝ }
+    ensures { λ r. ⌜ r ≡ sendersTest policy bits clock (λ i. getD waiting i 0) (λ i. getD «on_line» i 0) n senders togglers meters ⌝ }
 {
     let mut i: u32 = 0;
     while i < n {
-        let sender = senders[i as usize];
-        let toggler = togglers[i as usize];
-        let meter = meters[i as usize];
-        let a = waiting_of(i, waiting, waits);
-        let b = on_line_of(i, on_line, moves);
+        let k = i as usize;
+        let sender = senders[k];
+        let toggler = togglers[k];
+        let meter = meters[k];
+        let a = waiting[k];
+        let b = on_line[k];
         if !sender_fit(policy, bits, clock, sender, toggler, meter, a, b) {
             return false;
         }

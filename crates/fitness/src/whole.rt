@@ -2,7 +2,9 @@ ghost use mathlib.Core.Path.{_≡_};
 ghost use Rattle.remy.specs.Fit.{fit};
 use crate::frame::frame_fit;
 use crate::packets::first_due;
+use crate::packets::on_line_counts;
 use crate::packets::packets_fit;
+use crate::packets::waiting_counts;
 use crate::queue::queue_fit;
 use crate::senders::senders_fit;
 use remy::Simulation;
@@ -30,14 +32,14 @@ pub fn is_fit(simulation: Simulation) -> bool
     let policy = network.policy;
     let togglers = simulation.togglers;
     let meters = simulation.meters;
+    let waiting_each = waiting_counts(waiting, waits);
+    let on_line_each = on_line_counts(on_line, moves);
     if !senders_fit(
         policy,
         network.bits,
         clock,
-        waiting,
-        waits,
-        on_line,
-        moves,
+        waiting_each,
+        on_line_each,
         n,
         senders,
         togglers,

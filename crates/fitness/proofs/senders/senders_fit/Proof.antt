@@ -3,6 +3,7 @@ use Prim.Native.Nat.{_-_, _≤_}
 use mathlib.Core.Path.{_≡_}
 use mathlib.Core.Bool.{true}
 use native.Mathlib.Omega.{arith}
+use lib.ListN.{getD}
 use borrow.Author.Tests.{not-true, not-false}
 use borrow.Author.Needs.{needs}
 use Rattle.fitness.specs.Tests.{sendersTest}
@@ -11,17 +12,17 @@ use Rattle.fitness.proofs.senders.senders_fit.Statement.{statement}
 use Rattle.fitness.proofs.senders.senders_fit.Tie as tie
 
 abbrev Inv-loop : tie.InvT-loop
-Inv-loop policy bits clock waiting waits on-line moves n senders togglers meters i₀ i =
-    (i ≤ n) × (sendersTest policy bits clock waiting waits on-line moves i senders togglers meters ≡ true)
+Inv-loop policy bits clock n waiting on-line senders togglers meters i₀ i =
+    (i ≤ n) × (sendersTest policy bits clock (λ k. getD waiting k 0) (λ k. getD on-line k 0) i senders togglers meters ≡ true)
 
 abbrev μ-loop : tie.MeasureT-loop
-μ-loop policy bits clock waiting waits on-line moves n senders togglers meters i₀ i = n - i
+μ-loop policy bits clock n waiting on-line senders togglers meters i₀ i = n - i
 
 loop-holds : tie.Need-loop-holds Inv-loop μ-loop
-loop-holds c = (omega arith, senders-none _ _ _ _ _ _ _ _ _ _)
+loop-holds c = (omega arith, senders-none _ _ _ _ _ _ _ _)
 
-cast-sender : tie.Need-cast-sender Inv-loop μ-loop
-cast-sender c = search needs
+cast-k : tie.Need-cast-k Inv-loop μ-loop
+cast-k c = search needs
 
 mul-sender : tie.Need-mul-sender Inv-loop μ-loop
 mul-sender c = search needs
@@ -29,17 +30,11 @@ mul-sender c = search needs
 array-copy-out-sender : tie.Need-array-copy-out-sender Inv-loop μ-loop
 array-copy-out-sender c = search needs
 
-cast-toggler : tie.Need-cast-toggler Inv-loop μ-loop
-cast-toggler c = search needs
-
 mul-toggler : tie.Need-mul-toggler Inv-loop μ-loop
 mul-toggler c = search needs
 
 array-copy-out-toggler : tie.Need-array-copy-out-toggler Inv-loop μ-loop
 array-copy-out-toggler c = search needs
-
-cast-meter : tie.Need-cast-meter Inv-loop μ-loop
-cast-meter c = search needs
 
 mul-meter : tie.Need-mul-meter Inv-loop μ-loop
 mul-meter c = search needs
@@ -47,22 +42,28 @@ mul-meter c = search needs
 array-copy-out-meter : tie.Need-array-copy-out-meter Inv-loop μ-loop
 array-copy-out-meter c = search needs
 
-waiting-of-requires : tie.Need-waiting-of-requires Inv-loop μ-loop
-waiting-of-requires c κs = search needs
+mul-a : tie.Need-mul-a Inv-loop μ-loop
+mul-a c = search needs
 
-on-line-of-requires : tie.Need-on-line-of-requires Inv-loop μ-loop
-on-line-of-requires c κs = search needs
+array-read-a : tie.Need-array-read-a Inv-loop μ-loop
+array-read-a c = search needs
+
+mul-b : tie.Need-mul-b Inv-loop μ-loop
+mul-b c = search needs
+
+array-read-b : tie.Need-array-read-b Inv-loop μ-loop
+array-read-b c = search needs
 
 sender-fit-requires : tie.Need-sender-fit-requires Inv-loop μ-loop
-sender-fit-requires c κs = search needs
+sender-fit-requires c κs =
+    let pre = c .before .before .before .before .before .pre in
+    let more = c .before .before .before .loop-test .taken in
+    (pre .0, pre .2 .few _ (omega (arith, more)), pre .3 .few _ (omega (arith, more)))
 
 returns : tie.Need-returns Inv-loop μ-loop
 returns c =
-    let A = c .before .before .before .waiting-of in
-    let B = c .before .before .on-line-of in
     let S = c .before .sender-fit in
-    senders-stops _ _ _ _ _ _ _ _ _ _ _ (A .result) (B .result) (A .ensures .0) (B .ensures .0) (S .result) (S .ensures)
-    _ (c .before .before .before .before .before .before .before .loop-test .taken) (not-true (S .result) (c .if1 .taken))
+    senders-stops _ _ _ _ _ _ _ _ _ (S .result) (S .ensures) _ (c .before .before .before .before .before .loop-test .taken) (not-true (S .result) (c .if1 .taken))
 
 add-i : tie.Need-add-i Inv-loop μ-loop
 add-i c = search needs
@@ -72,18 +73,14 @@ loop-less c = search needs
 
 loop-again : tie.Need-loop-again Inv-loop μ-loop
 loop-again c =
-    let A = c .before .before .before .waiting-of in
-    let B = c .before .before .on-line-of in
     let S = c .before .sender-fit in (
-      omega (arith, c .before .before .before .before .before .before .before .loop-test .taken),
-      senders-goes _ _ _ _ _ _ _ _ _ _ _ (A .result) (B .result) (A .ensures .0) (B .ensures .0) (S .result) (S .ensures)
-          (c .before .before .before .before .before .before .before .before .loop .inv .1)
-          (not-false (S .result) (c .if1 .left)),
+      omega (arith, c .before .before .before .before .before .loop-test .taken),
+      senders-goes _ _ _ _ _ _ _ _ _ (S .result) (S .ensures) (c .before .before .before .before .before .before .loop .inv .1) (not-false (S .result) (c .if1 .left)),
     )
 
 returns-2 : tie.Need-returns-2 Inv-loop μ-loop
 returns-2 c =
-    let L = c .before .loop in senders-done _ _ _ _ _ _ _ _ _ _ _ (L .i) (L .inv .1) (L .inv .0) (c .loop-test .left)
+    let L = c .before .loop in senders-done _ _ _ _ _ _ _ _ _ (L .i) (L .inv .1) (L .inv .0) (c .loop-test .left)
 
 pub senders-fit-spec : {M : Type 1} → statement M
 senders-fit-spec =
@@ -92,17 +89,17 @@ senders-fit-spec =
     Inv-loop
     μ-loop
     loop-holds
-    cast-sender
+    cast-k
     mul-sender
     array-copy-out-sender
-    cast-toggler
     mul-toggler
     array-copy-out-toggler
-    cast-meter
     mul-meter
     array-copy-out-meter
-    waiting-of-requires
-    on-line-of-requires
+    mul-a
+    array-read-a
+    mul-b
+    array-read-b
     sender-fit-requires
     returns
     add-i
