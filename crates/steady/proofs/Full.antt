@@ -32,6 +32,7 @@ use Rattle.steady.specs.Steady.{Full}
 pub full-queue : (s : Simulation) (head : Head) (queue : List Queued) → length queue ≡ queuePlaces → Full s → Full (withHead (withQueue s queue) head)
 full-queue s head queue e f = record { waiting = f .waiting; moving = f .moving; senders = f .senders; togglers = f .togglers; meters = f .meters; queue = e }
 
+-- as it is built
 pub record NewState (s : Simulation) : Type 0 where
   pub full : Full s
   pub none : onLineItems s ≡ []

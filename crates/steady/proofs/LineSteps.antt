@@ -135,7 +135,6 @@ module _ (s : Simulation) (b : Body s) where
 
   -- ---- the first packet that waits starts
   module _ (early : Early (s .head .clock)) (e : isFree (s .line) (s .head .clock) ≡ true) (room : leb places (s .line .«on_line» .count) ≡ false)
-      (free : newTime (s .head .clock) (amountOverRate (packetBits (s .network) (firstOf s)) (rateOf (s .network .rate))) .number ≡ 0)
       (due : newTime (s .head .clock) (spanOf (s .network .delay)) .number ≡ 0) where
     ok : FitNetwork (s .network)
     ok = fit-network (s .network) (b .network)

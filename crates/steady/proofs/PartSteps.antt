@@ -98,9 +98,8 @@ module _ (s : Simulation) (b : Body s) (early : Early (s .head .clock)) where
       enabled = subst (StateOk (s .network .policy) (s .head .clock)) on (part .state)
 
       -- ---- its timer
-      pub timer-body : tickTimer (s .network .policy) e (s .head .clock) .number ≡ 0
-          → Body (withSender s i (enabledSender (senderAt s i) (senderAt s i .«packets_sent») (tickTimer (s .network .policy) e (s .head .clock) .enabled)))
-      timer-body z =
+      pub timer-body : Body (withSender s i (enabledSender (senderAt s i) (senderAt s i .«packets_sent») (tickTimer (s .network .policy) e (s .head .clock) .enabled)))
+      timer-body =
           resumed (senderAt s i .«packets_sent») (tickTimer (s .network .policy) e (s .head .clock) .enabled) (ap senderOn on) (le-of-eq refl) (part .sent)
           (timer-ok (s .head .clock) early e (s .network .policy) (net .policy) enabled)
 

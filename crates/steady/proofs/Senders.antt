@@ -27,8 +27,8 @@ window-i w low high = both-i (leb 1 w) (leb w 64) (le-leb 1 w low) (le-leb w 64 
 halved-fit : (w : ℕ) → windowFit w ≡ true → windowFit (max 1 (w / 2)) ≡ true
 halved-fit w f = let high : w ≤ 64 = between-high 1 64 w f in window-i (max 1 (w / 2)) (omega arith) (omega (arith, high))
 
-grown-fit : (w most : ℕ) → windowFit w ≡ true → windowFit most ≡ true → windowFit (min (w + 1) most) ≡ true
-grown-fit w most f g =
+grown-fit : (w most : ℕ) → windowFit most ≡ true → windowFit (min (w + 1) most) ≡ true
+grown-fit w most g =
     let low : 1 ≤ most = between-low 1 64 most g in
     let high : most ≤ 64 = between-high 1 64 most g in
     window-i (min (w + 1) most) (omega (arith, low)) (omega (arith, high))
@@ -45,12 +45,11 @@ sent-fit (Policy.Held u) w f g = f
 sent-fit (Policy.Grown first most) w f g = g
 sent-fit (Policy.Timed most gap) w f g = g
 
-counted-fit : (policy : Policy) (w : ℕ) → policyFit policy ≡ true → windowFit w ≡ true → windowFit (windowCounted policy w) ≡ true
+counted-fit : (policy : Policy) (w : ℕ) → policyFit policy ≡ true → windowFit (windowCounted policy w) ≡ true
 unfolding windowCounted
-counted-fit (Policy.Held u) w f g = f
-counted-fit (Policy.Grown first most) w f g =
-    grown-fit w most g (both-r (windowFit first) (windowFit most) (both-l (windowFit first && windowFit most) (leb first most) f))
-counted-fit (Policy.Timed most gap) w f g = grown-fit w most g (both-l (windowFit most) (gapFit gap) f)
+counted-fit (Policy.Held u) w f = f
+counted-fit (Policy.Grown first most) w f = grown-fit w most (both-r (windowFit first) (windowFit most) (both-l (windowFit first && windowFit most) (leb first most) f))
+counted-fit (Policy.Timed most gap) w f = grown-fit w most (both-l (windowFit most) (gapFit gap) f)
 
 -- what a send that is not refused gives: the packet that follows the last, of sender i
 pub record SentOk (clock : Time) (sent : ℕ) (policy : Policy) (i : ℕ) (t : Sent) : Type 0 where
@@ -101,4 +100,4 @@ module _ (clock : Time) (c : Early clock) (e : Enabled) where
   pub acked-ok : (policy : Policy) (p : Packet) → policyFit policy ≡ true → p .seq ≤ 16777216 → EnabledOk policy clock e → EnabledOk policy clock (acked policy e p)
   acked-ok policy p f few k =
       let ack = k .ack in
-      record { started = k .started; ack = omega (arith, few, ack); window = counted-fit policy (e .cwnd) f (k .window); timer = k .timer }
+      record { started = k .started; ack = omega (arith, few, ack); window = counted-fit policy (e .cwnd) f; timer = k .timer }

@@ -78,7 +78,7 @@ lands (moves r m) k = land m k
 -- a state whose part is queued again
 ready : (s : Simulation) (role : Role) → Body s → Real (s .network .senders) role → QueueBut (partOf role) s → 1 ≤ s .network .senders → Ready (requeue s role)
 unfolding requeue
-ready s role b real q some = record { body = unfold requeue in requeue-body s role b; queue = unfold requeue in requeued s role b real q; some = some }
+ready s role b real q some = record { body = requeue-body s role b; queue = requeued s role b real q; some = some }
 
 -- every part but one, of a whole queue
 but : (s : Simulation) (j : ℕ) → QueueOk s → QueueBut j s
@@ -111,7 +111,7 @@ module _ (s : Simulation) (b : Body s) (early : Early (s .head .clock)) where
       (λ g.
       let f0 = eqb-true (free .number) 0 f in
       let g0 = eqb-true (due .number) 0 g in
-      rw (new-is clock _ f0, new-is clock _ g0) (go (start-body s b early e room f0 g0) (start-loose s b early e room f0 g0)))
+      rw (new-is clock _ f0, new-is clock _ g0) (go (start-body s b early e room g0) (start-loose s b early e room g0)))
       (λ g. stop (due .number) g))
       (λ f. stop (free .number) f)))
       (λ e. none)
@@ -245,7 +245,7 @@ module _ (s : Simulation) (i : ℕ) (h : i < s .network .senders) (b : Between (
       (λ due. cond-elim F (eqb (t .number) 0)
       (record { number = 0; note = recordAt s (sender i) Mark.Timer Name.None Name.None; simulation = withSender s i (enabledSender (senderAt s i) sent (t .enabled)); messages = [] })
       (stopped s (t .number))
-      (λ z. land _ (sender-ready (enabledSender (senderAt s i) sent (t .enabled)) (timer-body s (b .body) early i h e q (eqb-true (t .number) 0 z))))
+      (λ z. land _ (sender-ready (enabledSender (senderAt s i) sent (t .enabled)) (timer-body s (b .body) early i h e q)))
       (λ z. on-stopped LandedBy (sender i) s (t .number) z))
       (λ due. cond-elim F (eqb (u .number) 0)
       (record {
