@@ -13,7 +13,7 @@
 
 #define MOST_TEXT 4096
 
-static uint8_t out[REMYLINE_ENOUGH];
+static uint8_t out[REMYLINE_ENOUGH + 1]; /* one more for the 0 that ends a string */
 
 static void fail(const char *what) {
     fprintf(stderr, "table: %s\n", what);
@@ -103,9 +103,10 @@ int main(int argc, char **argv) {
         for (unsigned window = 2; window <= 20; window += 2)
             for (unsigned seed = 1; seed <= 10; seed++) {
                 size_t len = described(text, base, limit, window, seed);
-                size_t n = remyline_print((const uint8_t *)text, len, out, sizeof out);
+                size_t n = remyline_print((const uint8_t *)text, len, out, REMYLINE_ENOUGH);
                 if (n == 0)
                     fail("the buffer is too small");
+                out[n] = 0;
                 row((const char *)out, (const char *)out + n, limit, window, seed);
             }
     return fflush(stdout) ? 1 : 0;

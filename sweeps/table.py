@@ -5,10 +5,11 @@ The description is run with 10 limits, 10 windows and 10 seeds in the place of i
 runs all of them in this process, --program starts remyline for each; the tables are the same, and
 table.c writes it too. README.md describes the columns.
 
-    table.py --library libsweep.so ../examples/small-queue.txt > table.csv
+    sweeps/table.py --library target/libsweep.so examples/small-queue.txt > table.csv
 """
 import argparse
 import ctypes
+import os
 import re
 import struct
 import subprocess
@@ -18,7 +19,7 @@ ENOUGH = 8390784  # REMYLINE_ENOUGH of remyline.h
 
 def by_library(path):
     """A function from a description to what is printed for it, in this process."""
-    call = ctypes.CDLL(path).remyline_print
+    call = ctypes.CDLL(os.path.abspath(path)).remyline_print
     call.restype = ctypes.c_size_t
     call.argtypes = [ctypes.c_char_p, ctypes.c_size_t, ctypes.c_void_p, ctypes.c_size_t]
     out = ctypes.create_string_buffer(ENOUGH)
