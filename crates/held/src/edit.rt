@@ -28,7 +28,7 @@ use remy::Next;
 use remy::Simulation;
 
 // V and the fields of a network
-pub fn network(text: &[u8], at: usize, st: Simulation) -> Simulation {
+pub(crate) fn network(text: &[u8], at: usize, st: Simulation) -> Simulation {
     let mut out = st;
     let network = network_at(text, at);
     out.network = network;
@@ -36,7 +36,7 @@ pub fn network(text: &[u8], at: usize, st: Simulation) -> Simulation {
 }
 
 // C clock next
-pub fn head(text: &[u8], at: usize, st: Simulation) -> Simulation {
+pub(crate) fn head(text: &[u8], at: usize, st: Simulation) -> Simulation {
     let mut out = st;
     let next = next_at(text, at, 1);
     let clock = moment(text, at, 0);
@@ -54,7 +54,7 @@ fn next_at(text: &[u8], at: usize, k: usize) -> Next {
 }
 
 // L earliest-start bits, start and count of those that wait, start and count of those on the line
-pub fn line(text: &[u8], at: usize, st: Simulation) -> Simulation {
+pub(crate) fn line(text: &[u8], at: usize, st: Simulation) -> Simulation {
     let mut out = st;
     let rng = out.line.rng;
     let waiting = Ring {
@@ -94,7 +94,7 @@ fn at_most_512(n: usize) -> usize
 }
 
 // W slot count sender sequence sent-time: so many slots of those that wait
-pub fn waiting(text: &[u8], at: usize, st: Simulation) -> Simulation {
+pub(crate) fn waiting(text: &[u8], at: usize, st: Simulation) -> Simulation {
     let mut out = st;
     let start = size(text, at, 0);
     let n = at_most_512(size(text, at, 1));
@@ -109,7 +109,7 @@ pub fn waiting(text: &[u8], at: usize, st: Simulation) -> Simulation {
 }
 
 // O slot count sender sequence sent-time due: so many slots of those on the line
-pub fn on_line(text: &[u8], at: usize, st: Simulation) -> Simulation {
+pub(crate) fn on_line(text: &[u8], at: usize, st: Simulation) -> Simulation {
     let mut out = st;
     let start = size(text, at, 0);
     let n = at_most_512(size(text, at, 1));
@@ -126,7 +126,7 @@ pub fn on_line(text: &[u8], at: usize, st: Simulation) -> Simulation {
 }
 
 // S i sent on started greatest-ack window timer
-pub fn sender(text: &[u8], at: usize, st: Simulation) -> Simulation {
+pub(crate) fn sender(text: &[u8], at: usize, st: Simulation) -> Simulation {
     let mut out = st;
     let i = size(text, at, 0);
     if i < 16 {
@@ -157,7 +157,7 @@ fn state_at(text: &[u8], at: usize) -> SenderState {
 }
 
 // G i on next-toggle, and the generator's four words
-pub fn toggler(text: &[u8], at: usize, st: Simulation) -> Simulation {
+pub(crate) fn toggler(text: &[u8], at: usize, st: Simulation) -> Simulation {
     let mut out = st;
     let i = size(text, at, 0);
     if i < 16 {
@@ -181,7 +181,7 @@ fn words_at(text: &[u8], at: usize) -> Rng {
 }
 
 // M i total-time start bits records rtt-sum
-pub fn meter(text: &[u8], at: usize, st: Simulation) -> Simulation {
+pub(crate) fn meter(text: &[u8], at: usize, st: Simulation) -> Simulation {
     let mut out = st;
     let i = size(text, at, 0);
     if i < 16 {
@@ -199,7 +199,7 @@ pub fn meter(text: &[u8], at: usize, st: Simulation) -> Simulation {
 }
 
 // Q place time
-pub fn queue(text: &[u8], at: usize, st: Simulation) -> Simulation {
+pub(crate) fn queue(text: &[u8], at: usize, st: Simulation) -> Simulation {
     let mut out = st;
     let k = size(text, at, 0);
     if k < 33 {

@@ -24,7 +24,7 @@ use remy::Simulation;
 use remy::TickRecord;
 use simulation::SenderFlow;
 
-pub fn record(out: Sink, note: TickRecord) -> Sink {
+pub(crate) fn record(out: Sink, note: TickRecord) -> Sink {
     let a = moment(put(out, b"time="), note.time);
     let b = decimal(put(a, b" part="), note.part as u64);
     let marked = note.mark;
@@ -63,7 +63,7 @@ fn pair(out: Sink, a: u64, b: u64) -> Sink {
 }
 
 // The whole held state, with no line end.
-pub fn state(out: Sink, st: Simulation) -> Sink {
+pub(crate) fn state(out: Sink, st: Simulation) -> Sink {
     let head = st.head;
     let line = st.line;
     let part = head.next;
@@ -153,7 +153,7 @@ fn separate(out: Sink, k: usize) -> Sink {
     put(out, b",")
 }
 
-pub fn slot(start: usize, k: usize) -> usize
+pub(crate) fn slot(start: usize, k: usize) -> usize
     ensures { λ r. ⌜ r < 512 ⌝ }
 {
     if start < 512 {
@@ -254,7 +254,7 @@ fn queue(out: Sink, places: [Queued; 33], n: usize) -> Sink
 }
 
 // The flow of each sender, read at the clock.
-pub fn flows(out: Sink, st: Simulation) -> Sink {
+pub(crate) fn flows(out: Sink, st: Simulation) -> Sink {
     let n = few(st.network.senders);
     let mut o = out;
     let mut i: u32 = 0;
@@ -265,7 +265,7 @@ pub fn flows(out: Sink, st: Simulation) -> Sink {
     o
 }
 
-pub fn flow(out: Sink, st: Simulation, i: u32) -> Sink {
+pub(crate) fn flow(out: Sink, st: Simulation, i: u32) -> Sink {
     let a = decimal(put(out, b"flow="), i as u64);
     let b = totals(a, st, i);
     match simulation::average_properties(st, i) {
@@ -312,13 +312,13 @@ fn words(out: Sink, rng: Rng) -> Sink {
     pair(put(pair(out, w[0], w[1]), b":"), w[2], w[3])
 }
 
-pub fn maybe(out: Sink, time: OptionTime) -> Sink {
+pub(crate) fn maybe(out: Sink, time: OptionTime) -> Sink {
     match time {
         OptionTime::None => put(out, b"-"),
         OptionTime::Some(t) => moment(out, t),
     }
 }
 
-pub fn moment(out: Sink, time: Time) -> Sink {
+pub(crate) fn moment(out: Sink, time: Time) -> Sink {
     double(out, time.0.0)
 }

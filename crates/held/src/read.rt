@@ -12,7 +12,7 @@ use remy::RemyNetwork;
 
 // The network of the fields 0 to 15: delay, rate, loss, limit, bits, senders; on and off, each a kind
 // and two doubles; the policy's kind, two numbers and the gap.
-pub fn network_at(text: &[u8], at: usize) -> RemyNetwork {
+pub(crate) fn network_at(text: &[u8], at: usize) -> RemyNetwork {
     RemyNetwork {
         delay: double(text, at, 0),
         rate: double(text, at, 1),
@@ -56,7 +56,7 @@ fn policy_at(text: &[u8], at: usize) -> Policy {
 }
 
 // A field that may be absent, as a time.
-pub fn time_if_any(text: &[u8], at: usize, k: usize) -> OptionTime {
+pub(crate) fn time_if_any(text: &[u8], at: usize, k: usize) -> OptionTime {
     if absent(text, at, k) {
         OptionTime::None
     } else {
@@ -64,24 +64,24 @@ pub fn time_if_any(text: &[u8], at: usize, k: usize) -> OptionTime {
     }
 }
 
-pub fn absent(text: &[u8], at: usize, k: usize) -> bool {
+pub(crate) fn absent(text: &[u8], at: usize, k: usize) -> bool {
     byte_at(text, field(at, k)) == b'-'
 }
 
-pub fn moment(text: &[u8], at: usize, k: usize) -> Time {
+pub(crate) fn moment(text: &[u8], at: usize, k: usize) -> Time {
     Time(TimeSpan(double(text, at, k)))
 }
 
-pub fn double(text: &[u8], at: usize, k: usize) -> f64 {
+pub(crate) fn double(text: &[u8], at: usize, k: usize) -> f64 {
     from_bits(number(text, at, k))
 }
 
 // The last 32 bits of a field.
-pub fn narrow(text: &[u8], at: usize, k: usize) -> u32 {
+pub(crate) fn narrow(text: &[u8], at: usize, k: usize) -> u32 {
     (number(text, at, k) % 4294967296) as u32
 }
 
-pub fn size(text: &[u8], at: usize, k: usize) -> usize {
+pub(crate) fn size(text: &[u8], at: usize, k: usize) -> usize {
     (number(text, at, k) % 4294967296) as usize
 }
 
@@ -95,7 +95,7 @@ fn field(at: usize, k: usize) -> usize {
     262144
 }
 
-pub fn number(text: &[u8], at: usize, k: usize) -> u64 {
+pub(crate) fn number(text: &[u8], at: usize, k: usize) -> u64 {
     let from = field(at, k);
     let mut n: u64 = 0;
     for i in 0..16 {
@@ -126,12 +126,12 @@ fn digit(b: u8) -> u64
     }
 }
 
-pub fn byte_at(text: &[u8], at: usize) -> u8 {
+pub(crate) fn byte_at(text: &[u8], at: usize) -> u8 {
     if at < text.len() { text[at] } else { 0 }
 }
 
 // The place after the next LF, or the end.
-pub fn next_line(text: &[u8], at: usize) -> usize
+pub(crate) fn next_line(text: &[u8], at: usize) -> usize
     requires { do ⌜ at < (← ⟦text.len()⟧) ⌝ }
     ensures { λ r. ⌜ at < r ⌝ }
 {

@@ -21,7 +21,7 @@ use remy::Next;
 use remy::RemyNetwork;
 use remy::Simulation;
 
-pub fn digest(st: Simulation) -> u64 {
+pub(crate) fn digest(st: Simulation) -> u64 {
     let network = st.network;
     let head = st.head;
     let line = st.line;
