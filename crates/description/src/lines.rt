@@ -47,6 +47,8 @@ pub enum Kind {
 }
 
 // A number, and the byte that ends it.
+//
+// A helper within this crate: the caller gives an end that is no digit.
 pub fn ended(text: &[u8], at: usize, kind: Kind, end: u8) -> Number
     requires { ⌜ NoDigit 16 (end ∷ []) ⌝ }
     ensures { λ r. ⌜ Reads (kindForm kind end) (now (text .entry)) at (numbered r) ⌝ }
@@ -58,6 +60,8 @@ pub fn ended(text: &[u8], at: usize, kind: Kind, end: u8) -> Number
 }
 
 // A key, a number, and the byte that ends it.
+//
+// A helper within this crate: the caller gives an end that is no digit.
 pub fn value(text: &[u8], at: usize, key: &[u8], kind: Kind, end: u8) -> Number
     requires { ⌜ NoDigit 16 (end ∷ []) ⌝ }
     ensures { λ r. ⌜ Reads (keyed (now (key .entry)) (kindForm kind end)) (now (text .entry)) at (numbered r) ⌝ }

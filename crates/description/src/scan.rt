@@ -37,6 +37,8 @@ pub fn digit(b: u8) -> u64
 }
 
 // The digits from a position up to the first byte that is none, if their value is at most `most`.
+//
+// A helper within this crate: the caller gives a base of 1 to 16.
 pub fn digits(text: &[u8], at: usize, base: u64, most: u64) -> Number
     requires { ⌜ (0 < base) × (base ≤ 16) ⌝ }
     ensures { λ r. ⌜ ReadsDigits base most (now (text .entry)) at (numbered r) ⌝ }
@@ -93,6 +95,8 @@ pub fn byte(text: &[u8], at: usize, b: u8) -> Place
 }
 
 // A double: 16 hexadecimal digits, and the byte that ends it.
+//
+// A helper within this crate: the caller gives an end that is no digit.
 pub fn hex16(text: &[u8], at: usize, end: u8) -> Number
     requires { ⌜ NoDigit 16 (end ∷ []) ⌝ }
     ensures { λ r. ⌜ Reads (hexForm end) (now (text .entry)) at (numbered r) ⌝ }
@@ -122,6 +126,8 @@ pub fn led(first: u8, count: usize) -> bool
 }
 
 // A whole number: decimal without leading zeros, at most `most`, and the byte that ends it.
+//
+// A helper within this crate: the caller gives an end that is no digit.
 pub fn decimal(text: &[u8], at: usize, most: u64, end: u8) -> Number
     requires { ⌜ NoDigit 16 (end ∷ []) ⌝ }
     ensures { λ r. ⌜ Reads (decimalForm most end) (now (text .entry)) at (numbered r) ⌝ }
