@@ -1,5 +1,3 @@
 -- Laws that the functions' proofs cite.
-pub mod Arms
-pub mod Ticks
-pub mod Loop
+pub mod Cases
 pub mod Reach

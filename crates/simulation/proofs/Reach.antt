@@ -8,18 +8,13 @@ use Rattle.remy.specs.declared.simulation.Simulation.{Simulation}
 use Rattle.remy.specs.declared.simulation.TickRecord.{TickRecord}
 use Rattle.remy.specs.declared.simulation.Ticked.{Ticked}
 use Rattle.remy.specs.declared.simulation.Ran.{Ran}
-use Rattle.remy.specs.State.{link, sender, toggler}
-use Rattle.remy.specs.Fit.{fit}
-use Rattle.remy.specs.Tick.{Outcome, moves, stops, ticked, unmoved, outcomeOf, tickOf}
+use Rattle.remy.specs.Tick.{Outcome, moves, stops, ticked, tickOf}
 use Rattle.remy.specs.Run.{oneMore, runOf}
 use Rattle.remy.specs.History.{Call, tick, called, after, history, noted, Fresh}
 use Rattle.remy.specs.Account.{Account}
 use Rattle.remy.proofs.Account.{demand3}
-use Rattle.turns.specs.declared.Now.{Now}
-use Rattle.turns.specs.declared.Now.the-variants as Now
-use Rattle.turns.specs.Turns.{nowOf}
+use Rattle.advance.proofs.Ticks.{tick-elim}
 use Rattle.simulation.specs.Reached.{ticks, TickAccount, RunAccount}
-use Rattle.simulation.proofs.Ticks.{TickAs, now-tick}
 
 -- ---- calls and histories append
 
@@ -55,17 +50,11 @@ abbrev Still : Simulation → Ticked → Type 0
 Still s t = t .moved ≡ false → t .simulation ≡ s
 
 still : (s : Simulation) → Still s (tickOf s)
-still s = by (nowOf (fit s) (s .head) (s .network .senders)) (now-tick s _ refl)
+still s = tick-elim (Still s) s of-outcome
   where
     of-outcome : (o : Outcome) → Still s (ticked s o)
     of-outcome (stops k) e = refl
     of-outcome (moves x m) e = absurd (true≢false e)
-
-    by : (w : Now) → TickAs s w → Still s (tickOf s)
-    by (Now.Stop k) t = subst (Still s) (sym t) (of-outcome (stops k))
-    by Now.Link t = subst (Still s) (sym (t .1)) (of-outcome (outcomeOf s link))
-    by (Now.Sender i) t = subst (Still s) (sym (t .2)) (of-outcome (outcomeOf s (sender i)))
-    by (Now.Toggler i) t = subst (Still s) (sym (t .2)) (of-outcome (outcomeOf s (toggler i)))
 
 run-after : (n : ℕ) (s : Simulation) → after (ticks (runOf n s .done)) s ≡ runOf n s .simulation
 unfolding runOf

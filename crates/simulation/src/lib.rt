@@ -5,10 +5,6 @@ ghost use Rattle.remy.specs.Tick.{tickOf};
 ghost use Rattle.remy.specs.Run.{runOf};
 ghost use Rattle.simulation.specs.Reached.{TickAccount, RunAccount, toldFlow, flowOf};
 
-mod advance;
-
-pub use advance::Advanced;
-use advance::advance;
 use meters::FlowRead;
 use quantities::Time;
 use remy::Ran;
@@ -25,7 +21,7 @@ pub enum SenderFlow {
 pub fn tick(simulation: Simulation) -> Ticked
     ensures { λ r. ⌜ (r ≡ tickOf simulation) × TickAccount simulation r ⌝ }
 {
-    let a = advance(simulation, 1);
+    let a = advance::advance(simulation, 1);
     let note = a.note;
     let after = a.simulation;
     Ticked {
@@ -40,7 +36,7 @@ pub fn tick(simulation: Simulation) -> Ticked
 pub fn run(simulation: Simulation, n: u32) -> Ran
     ensures { λ r. ⌜ (r ≡ runOf n simulation) × RunAccount simulation r ⌝ }
 {
-    let a = advance(simulation, n);
+    let a = advance::advance(simulation, n);
     let last = a.simulation;
     Ran {
         done: a.done,

@@ -1,6 +1,6 @@
 -- The loop is the run, and demand 3 is given on. Assumes nothing.
 use borrow.Author.Needs.{needs}
-use Rattle.simulation.proofs.Ticks.{run-is}
+use Rattle.simulation.proofs.Cases.{run-is}
 use Rattle.simulation.proofs.Reach.{run-account}
 use Rattle.simulation.proofs.run.Statement.{statement}
 use Rattle.simulation.proofs.run.Tie as tie

@@ -1,6 +1,6 @@
 -- One turn of the loop is the tick, and demand 3 is given on. Assumes nothing.
 use borrow.Author.Needs.{needs}
-use Rattle.simulation.proofs.Ticks.{one-tick}
+use Rattle.simulation.proofs.Cases.{one-tick}
 use Rattle.simulation.proofs.Reach.{tick-account}
 use Rattle.simulation.proofs.tick.Statement.{statement}
 use Rattle.simulation.proofs.tick.Tie as tie

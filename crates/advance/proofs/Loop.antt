@@ -49,10 +49,10 @@ use Rattle.turns.specs.declared.SenderActed.{SenderActed}
 use Rattle.turns.specs.declared.Arriving.{Arriving}
 use Rattle.turns.specs.Turns.{nowOf, ownerOf, linkActed, onLineAt, heardBy, linkNote, linkSlot, senderSlot, placeAfterPick, togglerSlot, togglerNote, switchedTo, senderActed, arrivedWith, arrivedAt, waitingAt, senderNote}
 use Rattle.turns.proofs.InRange.{Ringed, on-line-range}
-use Rattle.simulation.specs.declared.advance.Advanced.{Advanced}
-use Rattle.simulation.specs.Advance.{advanceOf}
-use Rattle.simulation.proofs.Arms.{link-state, sender-state, toggler-state, link-moves, sender-moves, toggler-moves}
-use Rattle.simulation.proofs.Ticks.{TickAs, now-tick, InPlace, in-place, own-packet}
+use Rattle.advance.specs.declared.Advanced.{Advanced}
+use Rattle.advance.specs.Advance.{advanceOf}
+use Rattle.advance.proofs.Arms.{link-state, sender-state, toggler-state, link-moves, sender-moves, toggler-moves}
+use Rattle.advance.proofs.Ticks.{TickAs, now-tick, InPlace, in-place, own-packet}
 
 -- ---- whose turn it is
 

@@ -1,6 +1,7 @@
+// The loop of ticks, for `simulation`: `tick` is it at 1, `run` at n.
 ghost use mathlib.Core.Path.{_≡_};
 ghost use Rattle.remy.specs.Tick.{emptyRecord};
-ghost use Rattle.simulation.specs.Advance.{advanceOf};
+ghost use Rattle.advance.specs.Advance.{advanceOf};
 use remy::Simulation;
 use remy::TickRecord;
 use turns::Now;

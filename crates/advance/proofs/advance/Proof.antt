@@ -12,12 +12,12 @@ use Rattle.remy.specs.Tick.{emptyRecord, ticked}
 use Rattle.remy.specs.Fit.{fit}
 use Rattle.steady.specs.Steady.{Full}
 use Rattle.steady.proofs.Steady.{Steady, steady-fit}
-use Rattle.simulation.specs.Advance.{advanceOf}
-use Rattle.simulation.proofs.Arms.{link-stops, sender-stops, sender-full, toggler-stops}
-use Rattle.simulation.proofs.Ticks.{begins, goes-steady, stops-there, all-done, as-long, thrice, picked-small}
-use Rattle.simulation.proofs.Loop.{no-turn, link-turn, sender-turn, toggler-turn, owner-small, link-at, link-start, arrive-at, arrive-start, link-stored, sender-stored, toggler-stored}
-use Rattle.simulation.proofs.advance.advance.Statement.{statement}
-use Rattle.simulation.proofs.advance.advance.Tie as tie
+use Rattle.advance.specs.Advance.{advanceOf}
+use Rattle.advance.proofs.Arms.{link-stops, sender-stops, sender-full, toggler-stops}
+use Rattle.advance.proofs.Ticks.{begins, goes-steady, stops-there, all-done, as-long, thrice, picked-small}
+use Rattle.advance.proofs.Loop.{no-turn, link-turn, sender-turn, toggler-turn, owner-small, link-at, link-start, arrive-at, arrive-start, link-stored, sender-stored, toggler-stored}
+use Rattle.advance.proofs.advance.Statement.{statement}
+use Rattle.advance.proofs.advance.Tie as tie
 
 abbrev Inv-loop : tie.InvT-loop
 Inv-loop n steady st₀ done₀ note₀ st done note =

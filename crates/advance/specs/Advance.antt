@@ -4,7 +4,7 @@ use mathlib.Core.Bool.{cond}
 use Rattle.remy.specs.declared.simulation.Simulation.{Simulation}
 use Rattle.remy.specs.declared.simulation.TickRecord.{TickRecord}
 use Rattle.remy.specs.Tick.{tickOf}
-use Rattle.simulation.specs.declared.advance.Advanced.{Advanced}
+use Rattle.advance.specs.declared.Advanced.{Advanced}
 
 unfoldable pub advanceOf : ℕ → ℕ → TickRecord → Simulation → Advanced
 advanceOf zero d r s = record { done = d; number = 0; note = r; simulation = s }

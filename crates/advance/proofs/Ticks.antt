@@ -42,8 +42,8 @@ use Rattle.turns.specs.declared.Now.the-variants as Now
 use Rattle.turns.specs.declared.LinkActed.{LinkActed}
 use Rattle.turns.proofs.Picks.{part-inside}
 use Rattle.turns.specs.Turns.{nowRole, nowNext, nowOf, ownerOf, linkActed}
-use Rattle.simulation.specs.declared.advance.Advanced.{Advanced}
-use Rattle.simulation.specs.Advance.{advanceOf}
+use Rattle.advance.specs.declared.Advanced.{Advanced}
+use Rattle.advance.specs.Advance.{advanceOf}
 
 -- ---- whose turn it is
 
@@ -75,6 +75,16 @@ now-tick s w e = subst (TickAs s) (sym e) (by (fit s) refl)
     by true f = by-next s f (s .head .next) (rw f)
     by false f = rw f
 
+-- a tick is refused or idle, or moves
+pub tick-elim : (P : Ticked → Type 0) (s : Simulation) → ((o : Outcome) → P (ticked s o)) → P (tickOf s)
+tick-elim P s each = by (nowOf (fit s) (s .head) (s .network .senders)) (now-tick s _ refl)
+  where
+    by : (w : Now) → TickAs s w → P (tickOf s)
+    by (Now.Stop k) t = subst P (sym t) (each (stops k))
+    by Now.Link t = subst P (sym (t .1)) (each (outcomeOf s link))
+    by (Now.Sender i) t = subst P (sym (t .2)) (each (outcomeOf s (sender i)))
+    by (Now.Toggler i) t = subst P (sym (t .2)) (each (outcomeOf s (toggler i)))
+
 -- ---- the loop's equation
 
 pub begins : (n : ℕ) (r : TickRecord) (s : Simulation) → r ≡ emptyRecord → advanceOf (n - 0) 0 r s ≡ advanceOf n 0 emptyRecord s
@@ -97,61 +107,6 @@ module _ (n d : ℕ) (r : TickRecord) (s : Simulation) where
   pub all-done : n ≤ d → record { done = d; number = 0; note = r; simulation = s } ≡ advanceOf (n - d) d r s
   unfolding advanceOf
   all-done h = let none : n - d ≡ 0 = omega (arith, h) in rw none
-
--- ---- one tick, and a run, as the loop's cases
-
--- a tick that moves has the number 0
-abbrev Zero : Ticked → Type 0
-Zero t = t .moved ≡ true → t .number ≡ 0
-
-zero-number : (s : Simulation) → Zero (tickOf s)
-zero-number s = by (nowOf (fit s) (s .head) (s .network .senders)) (now-tick s _ refl)
-  where
-    of-outcome : (o : Outcome) → Zero (ticked s o)
-    of-outcome (stops k) e = absurd (true≢false (sym e))
-    of-outcome (moves x m) e = refl
-
-    by : (w : Now) → TickAs s w → Zero (tickOf s)
-    by (Now.Stop k) t = subst Zero (sym t) (of-outcome (stops k))
-    by Now.Link t = subst Zero (sym (t .1)) (of-outcome (outcomeOf s link))
-    by (Now.Sender i) t = subst Zero (sym (t .2)) (of-outcome (outcomeOf s (sender i)))
-    by (Now.Toggler i) t = subst Zero (sym (t .2)) (of-outcome (outcomeOf s (toggler i)))
-
-abbrev pub tick-told : Advanced → Ticked
-tick-told a = record { number = a .number; moved = eqb (a .done) 1; note = a .note; simulation = a .simulation }
-
-pub one-tick : (s : Simulation) (a : Advanced) → a ≡ advanceOf 1 0 emptyRecord s → tick-told a ≡ tickOf s
-unfolding advanceOf
-one-tick s a e = ap tick-told e ∙ by (tickOf s) (zero-number s) (tickOf s .moved) refl
-  where
-    told : Ticked → Advanced
-    told t = cond (t .moved) (record { done = 1; number = 0; note = t .note; simulation = t .simulation }) (record { done = 0; number = t .number; note = t .note; simulation = t .simulation })
-
-    by : (t : Ticked) → Zero t → (b : Bool) → t .moved ≡ b → tick-told (told t) ≡ t
-    by t z true e = rw (e, z e)
-    by t z false e = rw e
-
-abbrev pub run-told : Advanced → Ran
-run-told a = record { done = a .done; number = a .number; simulation = a .simulation }
-
-abbrev later : ℕ → Ran → Ran
-later d r = record { done = d + r .done; number = r .number; simulation = r .simulation }
-
-runs : (n d : ℕ) (r : TickRecord) (s : Simulation) → run-told (advanceOf n d r s) ≡ later d (runOf n s)
-unfolding advanceOf runOf
-runs zero d r s = ap (λ (k : ℕ). record { done = k; number = 0; simulation = s }) (sym (add-zero d))
-runs (suc n) d r s = by (tickOf s) (tickOf s .moved) refl (λ x m. runs n (d + 1) x m)
-  where
-    by : (t : Ticked) (b : Bool) → t .moved ≡ b → ((x : TickRecord) (m : Simulation) → run-told (advanceOf n (d + 1) x m) ≡ later (d + 1) (runOf n m))
-        → run-told (cond (t .moved) (advanceOf n (d + 1) (t .note) (t .simulation)) (record { done = d; number = t .number; note = t .note; simulation = t .simulation }))
-        ≡ later d (cond (t .moved) (oneMore (runOf n (t .simulation))) (record { done = 0; number = t .number; simulation = t .simulation }))
-    by t true e rest =
-        let more : (d + 1) + runOf n (t .simulation) .done ≡ d + (runOf n (t .simulation) .done + 1) = omega arith in
-        rw e (rest (t .note) (t .simulation) ∙ ap (λ (k : ℕ). record { done = k; number = runOf n (t .simulation) .number; simulation = runOf n (t .simulation) .simulation }) more)
-    by t false e rest = rw e (ap (λ (k : ℕ). record { done = k; number = t .number; simulation = t .simulation }) (sym (add-zero d)))
-
-pub run-is : (n : ℕ) (s : Simulation) (a : Advanced) → a ≡ advanceOf n 0 emptyRecord s → run-told a ≡ runOf n s
-run-is n s a e = ap run-told e ∙ runs n 0 emptyRecord s ∙ ap (λ (k : ℕ). record { done = k; number = runOf n s .number; simulation = runOf n s .simulation }) (zero-add (runOf n s .done))
 
 -- ---- what is in range in a fit state
 

@@ -1,0 +1,4 @@
+-- Laws that the functions' proofs cite.
+pub mod Arms
+pub mod Ticks
+pub mod Loop
