@@ -1,21 +1,26 @@
--- The loop keeps: the ticks left from here give what all n give from the start; a steady state where it began with one; and the lengths of two arrays. Each arm's turn is a law of Loop. Assumes nothing.
+-- The loop keeps: the ticks left from here give what all n give from the start; a steady state where it began with one; and the lengths of two arrays. Each arm's turn is a law of Loop; what is known at a point of the code is shown once, for all that need it. Assumes nothing.
 use mathlib.Core.Path.{_≡_, sym, ap, _∙_}
 use mathlib.Core.Bool.{true}
 use mathlib.Core.Logic.{⊎-elim}
-use Prim.Native.Nat.{_+_, _*_, _-_, _≤_, _<_}
+use Prim.Native.Nat.{ℕ, _+_, _-_, _≤_, _<_}
 use native.Mathlib.Omega.{arith}
-use lib.ListN.{length, length-map}
+use lib.ListN.{length, set, length-map}
 use borrow.Author.Needs.{needs}
 use borrow.Author.Tests.{ne-eqb}
-use Rattle.remy.specs.State.{frontOf}
-use Rattle.remy.specs.Tick.{emptyRecord, ticked}
+use Rattle.components.specs.declared.tick_queue.Queued.{Queued}
+use Rattle.components.specs.declared.tick_queue.Picked.{Picked}
+use Rattle.components.specs.Queue.{pickOf}
+use Rattle.remy.specs.declared.simulation.Simulation.{Simulation}
+use Rattle.remy.specs.declared.simulation.TickRecord.{TickRecord}
+use Rattle.remy.specs.State.{link, sender, toggler, frontOf}
+use Rattle.remy.specs.Tick.{emptyRecord, moves, unmoved, ticked, tickOf}
 use Rattle.remy.specs.Fit.{fit}
 use Rattle.steady.specs.Steady.{Full}
 use Rattle.steady.proofs.Steady.{Steady, steady-fit}
 use Rattle.advance.specs.Advance.{advanceOf}
 use Rattle.advance.proofs.Arms.{link-stops, sender-stops, sender-full, toggler-stops}
 use Rattle.advance.proofs.Ticks.{begins, goes-steady, stops-there, all-done, as-long, thrice, picked-small}
-use Rattle.advance.proofs.Loop.{no-turn, link-turn, sender-turn, toggler-turn, owner-small, link-at, link-start, arrive-at, arrive-start, link-stored, sender-stored, toggler-stored}
+use Rattle.advance.proofs.Loop.{Turn, no-turn, link-turn, sender-turn, toggler-turn, owner-small, link-at, link-start, arrive-at, arrive-start, link-stored, sender-stored, toggler-stored}
 use Rattle.advance.proofs.advance.Statement.{statement}
 use Rattle.advance.proofs.advance.Tie as tie
 
@@ -34,6 +39,65 @@ fit-known : (p : tie.Joined1 Inv-loop μ-loop) → p .if1 .fit ≡ fit (p .befor
 fit-known p =
     let l = p .before .before .loop in
     ⊎-elim (λ x. x .1 ∙ sym (steady-fit (l .st) (l .inv .3 .1 (x .0 .taken) .test))) (λ x. x .2 ∙ x .1 .ensures) (p .if1 .came)
+
+-- ---- what is known at a point of a turn
+
+-- the state that the turn begins with
+abbrev now-at : tie.After-whose-turn Inv-loop μ-loop → Simulation
+now-at w = w .before .before .before .before .before .before .before .loop .st
+
+link-known : (p : tie.After-enum-told Inv-loop μ-loop) → Turn (now-at (p .before .before)) link 0
+link-known p = let w = p .before .before in link-turn (now-at w) _ (fit-known (w .before .before .before .before .before)) (w .whose-turn .result) (w .whose-turn .ensures) (p .enum-told .given .1)
+
+sender-known : (p : tie.After-now2 Inv-loop μ-loop) → Turn (now-at (p .before .before)) (sender (p .now2 .given .0 .0)) (p .now2 .given .0 .0)
+sender-known p = let w = p .before .before in sender-turn (now-at w) _ (fit-known (w .before .before .before .before .before)) (w .whose-turn .result) (w .whose-turn .ensures) _ (p .now2 .given .1)
+
+toggler-known : (p : tie.After-now3 Inv-loop μ-loop) → Turn (now-at (p .before .before)) (toggler (p .now3 .given .0 .0)) (p .now3 .given .0 .0)
+toggler-known p = let w = p .before .before in toggler-turn (now-at w) _ (fit-known (w .before .before .before .before .before)) (w .whose-turn .result) (w .whose-turn .ensures) _ (p .now3 .given .1)
+
+link-place : (p : tie.After-link-acts Inv-loop μ-loop) → p .link-acts .result .at < 512
+link-place p = let e = p .before .before .before in link-at (now-at (e .before .before)) (link-known e .place) (p .link-acts .result) (p .link-acts .ensures)
+
+link-front : (p : tie.After-link-acts Inv-loop μ-loop) → p .link-acts .result .line .«on_line» .start < 512
+link-front p = let e = p .before .before .before in link-start (now-at (e .before .before)) (link-known e .place) (p .link-acts .result) (p .link-acts .ensures)
+
+owner-known : (p : tie.After-owner Inv-loop μ-loop) → p .owner .result < 16
+owner-known p = owner-small (frontOf (now-at (p .before .before .before .before .before .before .before .before)) .packet) (p .owner .result) (p .owner .ensures)
+
+arrive-place : (p : tie.After-arrive Inv-loop μ-loop) → p .arrive .result .at < 512
+arrive-place p = arrive-at _ _ _ (p .before .before .before .before .sender-acts .result .sending) (p .arrive .result) (p .arrive .ensures)
+
+arrive-front : (p : tie.After-arrive Inv-loop μ-loop) → p .arrive .result .line .«on_line» .start < 512
+arrive-front p = arrive-start _ _ _ (p .before .before .before .before .sender-acts .result .sending) (p .arrive .result) (p .arrive .ensures) (sender-known (p .before .before .before .before .before .before .before) .place .on-line-start)
+
+-- the part picked after two places of the queue were stored anew
+picked-at : (w : tie.After-whose-turn Inv-loop μ-loop) (i : ℕ) (x : Queued) (j : ℕ) (y : Queued) (q : Picked) → q ≡ pickOf (set (set (now-at w .queue) i x) j y) → q .part < 33
+picked-at w = picked-small (now-at w .queue) (w .before .before .before .before .before .before .before .loop .inv .2)
+
+link-picked : (p : tie.After-pick Inv-loop μ-loop) → p .pick .result .part < 33
+link-picked p = picked-at (p .before .before .before .before .before .before .before .before .before .before .before .before .before .before .before .before .before .before .before .before .before .before .before .before) 0 (p .before .before .before .before .before .link-slot .result) _ (p .before .before .sender-slot .result) (p .pick .result) (p .pick .ensures)
+
+sender-picked : (p : tie.After-pick2 Inv-loop μ-loop) → p .pick2 .result .part < 33
+sender-picked p = picked-at (p .before .before .before .before .before .before .before .before .before .before .before .before .before .before .before .before .before .before .before .before .before .before) _ (p .before .before .before .before .before .sender-slot2 .result) 0 (p .before .before .link-slot2 .result) (p .pick2 .result) (p .pick2 .ensures)
+
+toggler-picked : (p : tie.After-pick3 Inv-loop μ-loop) → p .pick3 .result .part < 33
+toggler-picked p = picked-at (p .before .before .before .before .before .before .before .before .before .before .before .before .before .before .before .before .before .before .before .before) _ (p .before .before .before .before .before .toggler-slot .result) _ (p .before .before .sender-slot3 .result) (p .pick3 .result) (p .pick3 .ensures)
+
+-- ---- what a turn comes to
+
+-- the tick is refused or idle: the loop ends
+stopped : (w : tie.After-whose-turn Inv-loop μ-loop) (k : ℕ) → tickOf (now-at w) ≡ unmoved (now-at w) k → (e : TickRecord) → e ≡ emptyRecord
+    → record { done = w .before .before .before .before .before .before .before .loop .done; number = k; note = e; simulation = now-at w } ≡ advanceOf (w .before .before .before .before .before .before .before .before .before .before .args .n) 0 emptyRecord (w .before .before .before .before .before .before .before .before .before .before .args .simulation)
+stopped w k t e is = rw is (stops-there _ _ _ (now-at w) (w .before .before .before .before .before .before .loop-test .taken) k t ∙ w .before .before .before .before .before .before .before .loop .inv .3 .0)
+
+-- the tick moves: what the loop keeps, holds again
+moved : (w : tie.After-whose-turn Inv-loop μ-loop) (x : TickRecord) (m : Simulation) → tickOf (now-at w) ≡ ticked (now-at w) (moves x m) → length (m .«on_line») ≡ 512 → length (m .queue) ≡ 33
+    → Inv-loop (w .before .before .before .before .before .before .before .before .before .before .args .n) (w .before .before .before .before .before .before .before .before .before .is-steady .result) (w .before .before .before .before .before .before .before .before .before .before .args .simulation) 0 (w .before .before .before .before .before .before .before .before .empty-record .result) m (w .before .before .before .before .before .before .before .loop .done + 1) x
+moved w x m t moving queue =
+    let l = w .before .before .before .before .before .before .before .loop in
+    let more = w .before .before .before .before .before .before .loop-test .taken in (omega (arith, more), moving, queue, goes-steady _ _ _ (l .st) more x m t _ _ (l .inv .3))
+
+-- ---- the needs, in the order of the code
 
 is-steady-requires : tie.Need-is-steady-requires Inv-loop μ-loop
 is-steady-requires c κs = search needs
@@ -68,269 +132,132 @@ empty-record-requires-2 c κs = search needs
 
 returns : tie.Need-returns Inv-loop μ-loop
 returns c =
-    let at-now = c .before .before in
-    let at-whose-turn = at-now .before .before in
-    let at-fit = at-whose-turn .before .before .before .before .before in
-    let at-loop-test = at-fit .before in
-    let at-loop = at-loop-test .before in
-    rw (c .empty-record2 .ensures) (stops-there _ _ _ (at-loop .loop .st) (at-loop-test .loop-test .taken) _ (no-turn (at-loop .loop .st) (at-fit .if1 .fit) (fit-known at-fit) (at-whose-turn .whose-turn .result) (at-whose-turn .whose-turn .ensures) _ (at-now .now .given .1)) ∙ at-loop .loop .inv .3 .0)
+    let w = c .before .before .before .before in
+    stopped w _ (no-turn (now-at w) _ (fit-known (w .before .before .before .before .before)) (w .whose-turn .result) (w .whose-turn .ensures) _ (c .before .before .now .given .1)) (c .empty-record2 .result) (c .empty-record2 .ensures)
 
 enum-told : tie.Need-enum-told Inv-loop μ-loop
 enum-told c = search needs
 
 mul-front : tie.Need-mul-front Inv-loop μ-loop
-mul-front c =
-    let at-whose-turn = c .before .before in
-    let at-fit = at-whose-turn .before .before .before .before .before in
-    let at-loop = at-fit .before .before in
-    let turn = link-turn (at-loop .loop .st) (at-fit .if1 .fit) (fit-known at-fit) (at-whose-turn .whose-turn .result) (at-whose-turn .whose-turn .ensures) (c .enum-told .given .1) in
-    omega (arith, turn .place .on-line-start)
+mul-front c = omega (arith, link-known c .place .on-line-start)
 
 element-copy-out-front : tie.Need-element-copy-out-front Inv-loop μ-loop
-element-copy-out-front c =
-    let at-whose-turn = c .before .before in
-    let at-fit = at-whose-turn .before .before .before .before .before in
-    let at-loop = at-fit .before .before in
-    let turn = link-turn (at-loop .loop .st) (at-fit .if1 .fit) (fit-known at-fit) (at-whose-turn .whose-turn .result) (at-whose-turn .whose-turn .ensures) (c .enum-told .given .1) in
-    turn .place .on-line-start
+element-copy-out-front c = link-known c .place .on-line-start
 
 mul-first : tie.Need-mul-first Inv-loop μ-loop
-mul-first c =
-    let at-enum-told = c .before in
-    let at-whose-turn = at-enum-told .before .before in
-    let at-fit = at-whose-turn .before .before .before .before .before in
-    let at-loop = at-fit .before .before in
-    let turn = link-turn (at-loop .loop .st) (at-fit .if1 .fit) (fit-known at-fit) (at-whose-turn .whose-turn .result) (at-whose-turn .whose-turn .ensures) (at-enum-told .enum-told .given .1) in
-    omega (arith, turn .place .waiting-start)
+mul-first c = omega (arith, link-known (c .before) .place .waiting-start)
 
 element-copy-out-first : tie.Need-element-copy-out-first Inv-loop μ-loop
-element-copy-out-first c =
-    let at-enum-told = c .before in
-    let at-whose-turn = at-enum-told .before .before in
-    let at-fit = at-whose-turn .before .before .before .before .before in
-    let at-loop = at-fit .before .before in
-    let turn = link-turn (at-loop .loop .st) (at-fit .if1 .fit) (fit-known at-fit) (at-whose-turn .whose-turn .result) (at-whose-turn .whose-turn .ensures) (at-enum-told .enum-told .given .1) in
-    turn .place .waiting-start
+element-copy-out-first c = link-known (c .before) .place .waiting-start
 
 link-acts-requires : tie.Need-link-acts-requires Inv-loop μ-loop
-link-acts-requires c κs =
-    let at-enum-told = c .before .before in
-    let at-whose-turn = at-enum-told .before .before in
-    let at-fit = at-whose-turn .before .before .before .before .before in
-    let at-loop = at-fit .before .before in
-    let turn = link-turn (at-loop .loop .st) (at-fit .if1 .fit) (fit-known at-fit) (at-whose-turn .whose-turn .result) (at-whose-turn .whose-turn .ensures) (at-enum-told .enum-told .given .1) in
-    (turn .place .waiting-start, turn .place .on-line-start, turn .place .on-line-count)
+link-acts-requires c κs = (link-known (c .before .before) .place .waiting-start, link-known (c .before .before) .place .on-line-start, link-known (c .before .before) .place .on-line-count)
 
 empty-record-requires-3 : tie.Need-empty-record-requires-3 Inv-loop μ-loop
 empty-record-requires-3 c κs = search needs
 
 returns-2 : tie.Need-returns-2 Inv-loop μ-loop
 returns-2 c =
-    let at-if2 = c .before in
-    let at-link-acts = at-if2 .before .before in
-    let at-enum-told = at-link-acts .before .before .before in
-    let at-whose-turn = at-enum-told .before .before in
-    let at-fit = at-whose-turn .before .before .before .before .before in
-    let at-loop-test = at-fit .before in
-    let at-loop = at-loop-test .before in
-    let turn = link-turn (at-loop .loop .st) (at-fit .if1 .fit) (fit-known at-fit) (at-whose-turn .whose-turn .result) (at-whose-turn .whose-turn .ensures) (at-enum-told .enum-told .given .1) in
-    rw (c .empty-record3 .ensures) (stops-there _ _ _ (at-loop .loop .st) (at-loop-test .loop-test .taken) _ (turn .tick ∙ ap (ticked (at-loop .loop .st)) (link-stops (at-loop .loop .st) (at-link-acts .link-acts .result) (at-link-acts .link-acts .ensures) (ne-eqb _ _ (at-if2 .if2 .taken)))) ∙ at-loop .loop .inv .3 .0)
+    let acts = c .before .before .before .link-acts in
+    let e = c .before .before .before .before .before .before in
+    let s = now-at (e .before .before) in
+    stopped (e .before .before) _ (link-known e .tick ∙ ap (ticked s) (link-stops s (acts .result) (acts .ensures) (ne-eqb _ _ (c .before .if2 .taken)))) (c .empty-record3 .result) (c .empty-record3 .ensures)
 
 owner-requires : tie.Need-owner-requires Inv-loop μ-loop
 owner-requires c κs = search needs
 
 mul-sender : tie.Need-mul-sender Inv-loop μ-loop
-mul-sender c =
-    let at-loop = c .before .before .before .before .before .before .before .before .before .before .before .before .before .before .before in
-    omega (arith, owner-small (frontOf (at-loop .loop .st) .packet) (c .owner .result) (c .owner .ensures))
+mul-sender c = omega (arith, owner-known c)
 
 element-copy-out-sender : tie.Need-element-copy-out-sender Inv-loop μ-loop
-element-copy-out-sender c =
-    let at-loop = c .before .before .before .before .before .before .before .before .before .before .before .before .before .before .before in
-    owner-small (frontOf (at-loop .loop .st) .packet) (c .owner .result) (c .owner .ensures)
+element-copy-out-sender c = owner-known c
 
 mul-meter : tie.Need-mul-meter Inv-loop μ-loop
-mul-meter c =
-    let at-owner = c .before in
-    let at-loop = at-owner .before .before .before .before .before .before .before .before .before .before .before .before .before .before .before in
-    omega (arith, owner-small (frontOf (at-loop .loop .st) .packet) (at-owner .owner .result) (at-owner .owner .ensures))
+mul-meter c = omega (arith, owner-known (c .before))
 
 element-copy-out-meter : tie.Need-element-copy-out-meter Inv-loop μ-loop
-element-copy-out-meter c =
-    let at-owner = c .before in
-    let at-loop = at-owner .before .before .before .before .before .before .before .before .before .before .before .before .before .before .before in
-    owner-small (frontOf (at-loop .loop .st) .packet) (at-owner .owner .result) (at-owner .owner .ensures)
+element-copy-out-meter c = owner-known (c .before)
 
 hear-requires : tie.Need-hear-requires Inv-loop μ-loop
 hear-requires c κs = search needs
 
 mul-old : tie.Need-mul-old Inv-loop μ-loop
-mul-old c =
-    let at-link-acts = c .before .before .before .before .before .before .before .before .before in
-    let at-enum-told = at-link-acts .before .before .before in
-    let at-whose-turn = at-enum-told .before .before in
-    let at-fit = at-whose-turn .before .before .before .before .before in
-    let at-loop = at-fit .before .before in
-    let turn = link-turn (at-loop .loop .st) (at-fit .if1 .fit) (fit-known at-fit) (at-whose-turn .whose-turn .result) (at-whose-turn .whose-turn .ensures) (at-enum-told .enum-told .given .1) in
-    omega (arith, link-at (at-loop .loop .st) (turn .place) (at-link-acts .link-acts .result) (at-link-acts .link-acts .ensures))
+mul-old c = omega (arith, link-place (c .before .before .before .before .before .before .before .before .before))
 
 element-copy-out-old : tie.Need-element-copy-out-old Inv-loop μ-loop
-element-copy-out-old c =
-    let at-link-acts = c .before .before .before .before .before .before .before .before .before in
-    let at-enum-told = at-link-acts .before .before .before in
-    let at-whose-turn = at-enum-told .before .before in
-    let at-fit = at-whose-turn .before .before .before .before .before in
-    let at-loop = at-fit .before .before in
-    let turn = link-turn (at-loop .loop .st) (at-fit .if1 .fit) (fit-known at-fit) (at-whose-turn .whose-turn .result) (at-whose-turn .whose-turn .ensures) (at-enum-told .enum-told .given .1) in
-    link-at (at-loop .loop .st) (turn .place) (at-link-acts .link-acts .result) (at-link-acts .link-acts .ensures)
+element-copy-out-old c = link-place (c .before .before .before .before .before .before .before .before .before)
 
 on-line-at-requires : tie.Need-on-line-at-requires Inv-loop μ-loop
 on-line-at-requires c κs = search needs
 
 mul-new : tie.Need-mul-new Inv-loop μ-loop
-mul-new c =
-    let at-link-acts = c .before .before .before .before .before .before .before .before .before .before .before in
-    let at-enum-told = at-link-acts .before .before .before in
-    let at-whose-turn = at-enum-told .before .before in
-    let at-fit = at-whose-turn .before .before .before .before .before in
-    let at-loop = at-fit .before .before in
-    let turn = link-turn (at-loop .loop .st) (at-fit .if1 .fit) (fit-known at-fit) (at-whose-turn .whose-turn .result) (at-whose-turn .whose-turn .ensures) (at-enum-told .enum-told .given .1) in
-    omega (arith, link-at (at-loop .loop .st) (turn .place) (at-link-acts .link-acts .result) (at-link-acts .link-acts .ensures))
+mul-new c = omega (arith, link-place (c .before .before .before .before .before .before .before .before .before .before .before))
 
 element-set-from-new : tie.Need-element-set-from-new Inv-loop μ-loop
-element-set-from-new c =
-    let at-link-acts = c .before .before .before .before .before .before .before .before .before .before .before in
-    let at-enum-told = at-link-acts .before .before .before in
-    let at-whose-turn = at-enum-told .before .before in
-    let at-fit = at-whose-turn .before .before .before .before .before in
-    let at-loop = at-fit .before .before in
-    let turn = link-turn (at-loop .loop .st) (at-fit .if1 .fit) (fit-known at-fit) (at-whose-turn .whose-turn .result) (at-whose-turn .whose-turn .ensures) (at-enum-told .enum-told .given .1) in
-    link-at (at-loop .loop .st) (turn .place) (at-link-acts .link-acts .result) (at-link-acts .link-acts .ensures)
+element-set-from-new c = link-place (c .before .before .before .before .before .before .before .before .before .before .before)
 
 mul-heard : tie.Need-mul-heard Inv-loop μ-loop
-mul-heard c =
-    let at-owner = c .before .before .before .before .before .before .before .before in
-    let at-loop = at-owner .before .before .before .before .before .before .before .before .before .before .before .before .before .before .before in
-    omega (arith, owner-small (frontOf (at-loop .loop .st) .packet) (at-owner .owner .result) (at-owner .owner .ensures))
+mul-heard c = omega (arith, owner-known (c .before .before .before .before .before .before .before .before))
 
 element-set-from-heard : tie.Need-element-set-from-heard Inv-loop μ-loop
-element-set-from-heard c =
-    let at-owner = c .before .before .before .before .before .before .before .before in
-    let at-loop = at-owner .before .before .before .before .before .before .before .before .before .before .before .before .before .before .before in
-    owner-small (frontOf (at-loop .loop .st) .packet) (at-owner .owner .result) (at-owner .owner .ensures)
+element-set-from-heard c = owner-known (c .before .before .before .before .before .before .before .before)
 
 mul-counted : tie.Need-mul-counted Inv-loop μ-loop
-mul-counted c =
-    let at-owner = c .before .before .before .before .before .before .before .before in
-    let at-loop = at-owner .before .before .before .before .before .before .before .before .before .before .before .before .before .before .before in
-    omega (arith, owner-small (frontOf (at-loop .loop .st) .packet) (at-owner .owner .result) (at-owner .owner .ensures))
+mul-counted c = omega (arith, owner-known (c .before .before .before .before .before .before .before .before))
 
 element-set-from-counted : tie.Need-element-set-from-counted Inv-loop μ-loop
-element-set-from-counted c =
-    let at-owner = c .before .before .before .before .before .before .before .before in
-    let at-loop = at-owner .before .before .before .before .before .before .before .before .before .before .before .before .before .before .before in
-    owner-small (frontOf (at-loop .loop .st) .packet) (at-owner .owner .result) (at-owner .owner .ensures)
+element-set-from-counted c = owner-known (c .before .before .before .before .before .before .before .before)
 
 mul-front-after : tie.Need-mul-front-after Inv-loop μ-loop
-mul-front-after c =
-    let at-link-acts = c .before .before .before .before .before .before .before .before .before .before .before in
-    let at-enum-told = at-link-acts .before .before .before in
-    let at-whose-turn = at-enum-told .before .before in
-    let at-fit = at-whose-turn .before .before .before .before .before in
-    let at-loop = at-fit .before .before in
-    let turn = link-turn (at-loop .loop .st) (at-fit .if1 .fit) (fit-known at-fit) (at-whose-turn .whose-turn .result) (at-whose-turn .whose-turn .ensures) (at-enum-told .enum-told .given .1) in
-    omega (arith, link-start (at-loop .loop .st) (turn .place) (at-link-acts .link-acts .result) (at-link-acts .link-acts .ensures))
+mul-front-after c = omega (arith, link-front (c .before .before .before .before .before .before .before .before .before .before .before))
 
 element-copy-out-front-after : tie.Need-element-copy-out-front-after Inv-loop μ-loop
-element-copy-out-front-after c =
-    let at-link-acts = c .before .before .before .before .before .before .before .before .before .before .before in
-    let at-enum-told = at-link-acts .before .before .before in
-    let at-whose-turn = at-enum-told .before .before in
-    let at-fit = at-whose-turn .before .before .before .before .before in
-    let at-loop = at-fit .before .before in
-    let turn = link-turn (at-loop .loop .st) (at-fit .if1 .fit) (fit-known at-fit) (at-whose-turn .whose-turn .result) (at-whose-turn .whose-turn .ensures) (at-enum-told .enum-told .given .1) in
-    link-start (at-loop .loop .st) (turn .place) (at-link-acts .link-acts .result) (at-link-acts .link-acts .ensures)
+element-copy-out-front-after c = link-front (c .before .before .before .before .before .before .before .before .before .before .before)
 
 element-copy-out-old-link : tie.Need-element-copy-out-old-link Inv-loop μ-loop
-element-copy-out-old-link c =
-    omega (arith)
+element-copy-out-old-link c = omega arith
 
 link-slot-requires : tie.Need-link-slot-requires Inv-loop μ-loop
 link-slot-requires c κs = search needs
 
 element-set-from-link-slot : tie.Need-element-set-from-link-slot Inv-loop μ-loop
-element-set-from-link-slot c =
-    omega (arith)
+element-set-from-link-slot c = omega arith
 
 mul-sender-after : tie.Need-mul-sender-after Inv-loop μ-loop
-mul-sender-after c =
-    let at-owner = c .before .before .before .before .before .before .before .before .before .before .before in
-    let at-loop = at-owner .before .before .before .before .before .before .before .before .before .before .before .before .before .before .before in
-    omega (arith, owner-small (frontOf (at-loop .loop .st) .packet) (at-owner .owner .result) (at-owner .owner .ensures))
+mul-sender-after c = omega (arith, owner-known (c .before .before .before .before .before .before .before .before .before .before .before))
 
 element-copy-out-sender-after : tie.Need-element-copy-out-sender-after Inv-loop μ-loop
-element-copy-out-sender-after c =
-    let at-owner = c .before .before .before .before .before .before .before .before .before .before .before in
-    let at-loop = at-owner .before .before .before .before .before .before .before .before .before .before .before .before .before .before .before in
-    owner-small (frontOf (at-loop .loop .st) .packet) (at-owner .owner .result) (at-owner .owner .ensures)
+element-copy-out-sender-after c = owner-known (c .before .before .before .before .before .before .before .before .before .before .before)
 
 mul-place : tie.Need-mul-place Inv-loop μ-loop
-mul-place c =
-    let at-owner = c .before .before .before .before .before .before .before .before .before .before .before .before in
-    let at-loop = at-owner .before .before .before .before .before .before .before .before .before .before .before .before .before .before .before in
-    omega (arith, owner-small (frontOf (at-loop .loop .st) .packet) (at-owner .owner .result) (at-owner .owner .ensures))
+mul-place c = omega (arith, owner-known (c .before .before .before .before .before .before .before .before .before .before .before .before))
 
 add-place : tie.Need-add-place Inv-loop μ-loop
-add-place c =
-    let at-owner = c .before .before .before .before .before .before .before .before .before .before .before .before in
-    let at-loop = at-owner .before .before .before .before .before .before .before .before .before .before .before .before .before .before .before in
-    omega (arith, owner-small (frontOf (at-loop .loop .st) .packet) (at-owner .owner .result) (at-owner .owner .ensures))
+add-place c = omega (arith, owner-known (c .before .before .before .before .before .before .before .before .before .before .before .before))
 
 mul-old-sender : tie.Need-mul-old-sender Inv-loop μ-loop
-mul-old-sender c =
-    let at-owner = c .before .before .before .before .before .before .before .before .before .before .before .before in
-    let at-loop = at-owner .before .before .before .before .before .before .before .before .before .before .before .before .before .before .before in
-    omega (arith, owner-small (frontOf (at-loop .loop .st) .packet) (at-owner .owner .result) (at-owner .owner .ensures))
+mul-old-sender c = omega (arith, owner-known (c .before .before .before .before .before .before .before .before .before .before .before .before))
 
 element-copy-out-old-sender : tie.Need-element-copy-out-old-sender Inv-loop μ-loop
-element-copy-out-old-sender c =
-    let at-owner = c .before .before .before .before .before .before .before .before .before .before .before .before in
-    let at-loop = at-owner .before .before .before .before .before .before .before .before .before .before .before .before .before .before .before in
-    omega (arith, owner-small (frontOf (at-loop .loop .st) .packet) (at-owner .owner .result) (at-owner .owner .ensures))
+element-copy-out-old-sender c = omega (arith, owner-known (c .before .before .before .before .before .before .before .before .before .before .before .before))
 
 sender-slot-requires : tie.Need-sender-slot-requires Inv-loop μ-loop
 sender-slot-requires c κs = search needs
 
 mul-sender-slot : tie.Need-mul-sender-slot Inv-loop μ-loop
-mul-sender-slot c =
-    let at-owner = c .before .before .before .before .before .before .before .before .before .before .before .before .before .before in
-    let at-loop = at-owner .before .before .before .before .before .before .before .before .before .before .before .before .before .before .before in
-    omega (arith, owner-small (frontOf (at-loop .loop .st) .packet) (at-owner .owner .result) (at-owner .owner .ensures))
+mul-sender-slot c = omega (arith, owner-known (c .before .before .before .before .before .before .before .before .before .before .before .before .before .before))
 
 element-set-from-sender-slot : tie.Need-element-set-from-sender-slot Inv-loop μ-loop
-element-set-from-sender-slot c =
-    let at-owner = c .before .before .before .before .before .before .before .before .before .before .before .before .before .before in
-    let at-loop = at-owner .before .before .before .before .before .before .before .before .before .before .before .before .before .before .before in
-    omega (arith, owner-small (frontOf (at-loop .loop .st) .packet) (at-owner .owner .result) (at-owner .owner .ensures))
+element-set-from-sender-slot c = omega (arith, owner-known (c .before .before .before .before .before .before .before .before .before .before .before .before .before .before))
 
 pick-requires : tie.Need-pick-requires Inv-loop μ-loop
 pick-requires c κs = search needs
 
 mul-old-best : tie.Need-mul-old-best Inv-loop μ-loop
-mul-old-best c =
-    let at-sender-slot = c .before .before in
-    let at-link-slot = at-sender-slot .before .before .before in
-    let at-owner = at-link-slot .before .before .before .before .before .before .before .before .before .before .before in
-    let at-loop = at-owner .before .before .before .before .before .before .before .before .before .before .before .before .before .before .before in
-    omega (arith, picked-small (at-loop .loop .st .queue) (at-loop .loop .inv .2) 0 (at-link-slot .link-slot .result) (1 + 2 * at-owner .owner .result) (at-sender-slot .sender-slot .result) (c .pick .result) (c .pick .ensures))
+mul-old-best c = omega (arith, link-picked c)
 
 element-copy-out-old-best : tie.Need-element-copy-out-old-best Inv-loop μ-loop
-element-copy-out-old-best c =
-    let at-sender-slot = c .before .before in
-    let at-link-slot = at-sender-slot .before .before .before in
-    let at-owner = at-link-slot .before .before .before .before .before .before .before .before .before .before .before in
-    let at-loop = at-owner .before .before .before .before .before .before .before .before .before .before .before .before .before .before .before in
-    picked-small (at-loop .loop .st .queue) (at-loop .loop .inv .2) 0 (at-link-slot .link-slot .result) (1 + 2 * at-owner .owner .result) (at-sender-slot .sender-slot .result) (c .pick .result) (c .pick .ensures)
+element-copy-out-old-best c = link-picked c
 
 place-after-requires : tie.Need-place-after-requires Inv-loop μ-loop
 place-after-requires c κs = search needs
@@ -339,36 +266,19 @@ head-of-requires : tie.Need-head-of-requires Inv-loop μ-loop
 head-of-requires c κs = search needs
 
 mul-cleared : tie.Need-mul-cleared Inv-loop μ-loop
-mul-cleared c =
-    let at-pick = c .before .before .before in
-    let at-sender-slot = at-pick .before .before in
-    let at-link-slot = at-sender-slot .before .before .before in
-    let at-owner = at-link-slot .before .before .before .before .before .before .before .before .before .before .before in
-    let at-loop = at-owner .before .before .before .before .before .before .before .before .before .before .before .before .before .before .before in
-    omega (arith, picked-small (at-loop .loop .st .queue) (at-loop .loop .inv .2) 0 (at-link-slot .link-slot .result) (1 + 2 * at-owner .owner .result) (at-sender-slot .sender-slot .result) (at-pick .pick .result) (at-pick .pick .ensures))
+mul-cleared c = omega (arith, link-picked (c .before .before .before))
 
 element-set-from-cleared : tie.Need-element-set-from-cleared Inv-loop μ-loop
-element-set-from-cleared c =
-    let at-pick = c .before .before .before in
-    let at-sender-slot = at-pick .before .before in
-    let at-link-slot = at-sender-slot .before .before .before in
-    let at-owner = at-link-slot .before .before .before .before .before .before .before .before .before .before .before in
-    let at-loop = at-owner .before .before .before .before .before .before .before .before .before .before .before .before .before .before .before in
-    picked-small (at-loop .loop .st .queue) (at-loop .loop .inv .2) 0 (at-link-slot .link-slot .result) (1 + 2 * at-owner .owner .result) (at-sender-slot .sender-slot .result) (at-pick .pick .result) (at-pick .pick .ensures)
+element-set-from-cleared c = link-picked (c .before .before .before)
 
 link-note-requires : tie.Need-link-note-requires Inv-loop μ-loop
 link-note-requires c κs = search needs
 
 add-done : tie.Need-add-done Inv-loop μ-loop
-add-done c =
-    let at-loop-test = c .before .before .before .before .before .before .before .before .before .before .before .before .before .before .before .before .before .before .before .before .before .before .before .before .before .before .before .before .before .before .before .before .before .before in
-    let start = at-loop-test .before .before .before .before in
-    omega (arith, at-loop-test .loop-test .taken, start .fits .n .fits)
+add-done c = let w = c .before .before .before .before .before .before .before .before .before .before .before .before .before .before .before .before .before .before .before .before .before .before .before .before .before .before .before .before in omega (arith, w .before .before .before .before .before .before .loop-test .taken, w .before .before .before .before .before .before .before .before .before .before .fits .n .fits)
 
 loop-less : tie.Need-loop-less Inv-loop μ-loop
-loop-less c =
-    let at-loop-test = c .before .before .before .before .before .before .before .before .before .before .before .before .before .before .before .before .before .before .before .before .before .before .before .before .before .before .before .before .before .before .before .before .before .before in
-    omega (arith, at-loop-test .loop-test .taken)
+loop-less c = let w = c .before .before .before .before .before .before .before .before .before .before .before .before .before .before .before .before .before .before .before .before .before .before .before .before .before .before .before .before in omega (arith, w .before .before .before .before .before .before .loop-test .taken)
 
 loop-again : tie.Need-loop-again Inv-loop μ-loop
 loop-again c =
@@ -380,261 +290,125 @@ loop-again c =
     let at-on-line-at = at-link-slot .before .before .before in
     let at-hear = at-on-line-at .before .before .before .before in
     let at-owner = at-hear .before .before .before .before in
-    let at-if2 = at-owner .before in
-    let at-link-acts = at-if2 .before .before in
-    let at-enum-told = at-link-acts .before .before .before in
-    let at-whose-turn = at-enum-told .before .before in
-    let at-fit = at-whose-turn .before .before .before .before .before in
-    let at-loop-test = at-fit .before in
-    let at-loop = at-loop-test .before in
-    let turn = link-turn (at-loop .loop .st) (at-fit .if1 .fit) (fit-known at-fit) (at-whose-turn .whose-turn .result) (at-whose-turn .whose-turn .ensures) (at-enum-told .enum-told .given .1) in
-    let l = at-loop .loop in
-    (omega (arith, at-loop-test .loop-test .taken), as-long (l .st .«on_line») 512 (l .inv .1) _ _, thrice (l .st .queue) (l .inv .2) _ _ _ _ _ _, goes-steady _ _ _ (l .st) (at-loop-test .loop-test .taken) _ _ (link-stored (at-loop .loop .st) (at-owner .owner .result) (at-owner .owner .ensures) (at-loop .loop .inv .1) turn (at-link-acts .link-acts .result) (at-link-acts .link-acts .ensures) (at-if2 .if2 .left) (at-hear .hear .result) (at-hear .hear .ensures) (at-on-line-at .on-line-at .result) (at-on-line-at .on-line-at .ensures) (at-link-slot .link-slot .result) (at-link-slot .link-slot .ensures) (at-sender-slot .sender-slot .result) (at-sender-slot .sender-slot .ensures) (at-pick .pick .result) (at-pick .pick .ensures) (at-place-after .place-after .result) (at-place-after .place-after .ensures) (at-head-of .head-of .result) (at-head-of .head-of .ensures) (c .link-note .result) (c .link-note .ensures)) _ _ (l .inv .3))
+    let at-link-acts = at-owner .before .before .before in
+    let e = at-link-acts .before .before .before in
+    let w = e .before .before in
+    let l = w .before .before .before .before .before .before .before .loop in
+    moved w _ _
+    (link-stored (l .st) (at-owner .owner .result) (at-owner .owner .ensures) (l .inv .1) (link-known e) (at-link-acts .link-acts .result) (at-link-acts .link-acts .ensures) (at-owner .before .if2 .left) (at-hear .hear .result) (at-hear .hear .ensures)
+    (at-on-line-at .on-line-at .result) (at-on-line-at .on-line-at .ensures) (at-link-slot .link-slot .result) (at-link-slot .link-slot .ensures) (at-sender-slot .sender-slot .result) (at-sender-slot .sender-slot .ensures)
+    (at-pick .pick .result) (at-pick .pick .ensures) (at-place-after .place-after .result) (at-place-after .place-after .ensures) (at-head-of .head-of .result) (at-head-of .head-of .ensures) (c .link-note .result) (c .link-note .ensures))
+    (as-long (l .st .«on_line») 512 (l .inv .1) _ _) (thrice (l .st .queue) (l .inv .2) _ _ _ _ _ _)
 
 enum-known-now-2 : tie.Need-enum-known-now-2 Inv-loop μ-loop
 enum-known-now-2 c = search needs
 
 mul-sender-2 : tie.Need-mul-sender-2 Inv-loop μ-loop
-mul-sender-2 c =
-    let at-now2 = c .before in
-    let at-whose-turn = at-now2 .before .before in
-    let at-fit = at-whose-turn .before .before .before .before .before in
-    let at-loop = at-fit .before .before in
-    let turn = sender-turn (at-loop .loop .st) (at-fit .if1 .fit) (fit-known at-fit) (at-whose-turn .whose-turn .result) (at-whose-turn .whose-turn .ensures) _ (at-now2 .now2 .given .1) in
-    omega (arith, turn .below)
+mul-sender-2 c = omega (arith, sender-known (c .before) .below)
 
 element-copy-out-sender-2 : tie.Need-element-copy-out-sender-2 Inv-loop μ-loop
-element-copy-out-sender-2 c =
-    let at-now2 = c .before in
-    let at-whose-turn = at-now2 .before .before in
-    let at-fit = at-whose-turn .before .before .before .before .before in
-    let at-loop = at-fit .before .before in
-    let turn = sender-turn (at-loop .loop .st) (at-fit .if1 .fit) (fit-known at-fit) (at-whose-turn .whose-turn .result) (at-whose-turn .whose-turn .ensures) _ (at-now2 .now2 .given .1) in
-    turn .below
+element-copy-out-sender-2 c = sender-known (c .before) .below
 
 sender-acts-requires : tie.Need-sender-acts-requires Inv-loop μ-loop
-sender-acts-requires c κs =
-    let at-now2 = c .before .before in
-    let at-whose-turn = at-now2 .before .before in
-    let at-fit = at-whose-turn .before .before .before .before .before in
-    let at-loop = at-fit .before .before in
-    let turn = sender-turn (at-loop .loop .st) (at-fit .if1 .fit) (fit-known at-fit) (at-whose-turn .whose-turn .result) (at-whose-turn .whose-turn .ensures) _ (at-now2 .now2 .given .1) in
-    turn .below
+sender-acts-requires c κs = sender-known (c .before .before) .below
 
 empty-record-requires-4 : tie.Need-empty-record-requires-4 Inv-loop μ-loop
 empty-record-requires-4 c κs = search needs
 
 returns-3 : tie.Need-returns-3 Inv-loop μ-loop
 returns-3 c =
-    let at-if3 = c .before in
-    let at-sender-acts = at-if3 .before .before in
-    let at-now2 = at-sender-acts .before .before .before in
-    let at-whose-turn = at-now2 .before .before in
-    let at-fit = at-whose-turn .before .before .before .before .before in
-    let at-loop-test = at-fit .before in
-    let at-loop = at-loop-test .before in
-    let turn = sender-turn (at-loop .loop .st) (at-fit .if1 .fit) (fit-known at-fit) (at-whose-turn .whose-turn .result) (at-whose-turn .whose-turn .ensures) _ (at-now2 .now2 .given .1) in
-    rw (c .empty-record4 .ensures) (stops-there _ _ _ (at-loop .loop .st) (at-loop-test .loop-test .taken) _ (turn .tick ∙ ap (ticked (at-loop .loop .st)) (sender-stops (at-loop .loop .st) _ (at-sender-acts .sender-acts .result) (at-sender-acts .sender-acts .ensures) (ne-eqb _ _ (at-if3 .if3 .taken)))) ∙ at-loop .loop .inv .3 .0)
+    let acts = c .before .before .before .sender-acts in
+    let e = c .before .before .before .before .before .before in
+    let s = now-at (e .before .before) in
+    stopped (e .before .before) _ (sender-known e .tick ∙ ap (ticked s) (sender-stops s _ (acts .result) (acts .ensures) (ne-eqb _ _ (c .before .if3 .taken)))) (c .empty-record4 .result) (c .empty-record4 .ensures)
 
 arrive-requires : tie.Need-arrive-requires Inv-loop μ-loop
-arrive-requires c κs =
-    let at-now2 = c .before .before .before .before .before .before in
-    let at-whose-turn = at-now2 .before .before in
-    let at-fit = at-whose-turn .before .before .before .before .before in
-    let at-loop = at-fit .before .before in
-    let turn = sender-turn (at-loop .loop .st) (at-fit .if1 .fit) (fit-known at-fit) (at-whose-turn .whose-turn .result) (at-whose-turn .whose-turn .ensures) _ (at-now2 .now2 .given .1) in
-    (turn .place .waiting-start, turn .place .waiting-count, turn .place .room)
+arrive-requires c κs = (sender-known (c .before .before .before .before .before .before) .place .waiting-start, sender-known (c .before .before .before .before .before .before) .place .waiting-count, sender-known (c .before .before .before .before .before .before) .place .room)
 
 empty-record-requires-5 : tie.Need-empty-record-requires-5 Inv-loop μ-loop
 empty-record-requires-5 c κs = search needs
 
 returns-4 : tie.Need-returns-4 Inv-loop μ-loop
 returns-4 c =
-    let at-if4 = c .before in
-    let at-arrive = at-if4 .before .before in
-    let at-if3 = at-arrive .before .before in
-    let at-sender-acts = at-if3 .before .before in
-    let at-now2 = at-sender-acts .before .before .before in
-    let at-whose-turn = at-now2 .before .before in
-    let at-fit = at-whose-turn .before .before .before .before .before in
-    let at-loop-test = at-fit .before in
-    let at-loop = at-loop-test .before in
-    let turn = sender-turn (at-loop .loop .st) (at-fit .if1 .fit) (fit-known at-fit) (at-whose-turn .whose-turn .result) (at-whose-turn .whose-turn .ensures) _ (at-now2 .now2 .given .1) in
-    rw (c .empty-record5 .ensures) (stops-there _ _ _ (at-loop .loop .st) (at-loop-test .loop-test .taken) _ (turn .tick ∙ ap (ticked (at-loop .loop .st)) (sender-full (at-loop .loop .st) _ (at-sender-acts .sender-acts .result) (at-sender-acts .sender-acts .ensures) (at-if3 .if3 .left) (at-arrive .arrive .result) (at-arrive .arrive .ensures) (ne-eqb _ _ (at-if4 .if4 .taken)))) ∙ at-loop .loop .inv .3 .0)
+    let arrives = c .before .before .before .arrive in
+    let acts = c .before .before .before .before .before .before .before .sender-acts in
+    let e = c .before .before .before .before .before .before .before .before .before .before in
+    let s = now-at (e .before .before) in
+    stopped (e .before .before) _
+    (sender-known e .tick ∙ ap (ticked s) (sender-full s _ (acts .result) (acts .ensures) (c .before .before .before .before .before .if3 .left) (arrives .result) (arrives .ensures) (ne-eqb _ _ (c .before .if4 .taken))))
+    (c .empty-record5 .result) (c .empty-record5 .ensures)
 
 mul-old-2 : tie.Need-mul-old-2 Inv-loop μ-loop
-mul-old-2 c =
-    let at-arrive = c .before .before .before in
-    let at-sender-acts = at-arrive .before .before .before .before in
-    let at-loop = at-sender-acts .before .before .before .before .before .before .before .before .before .before .before .before in
-    omega (arith, arrive-at (at-loop .loop .st .network .limit) (at-loop .loop .st .network .bits) (at-loop .loop .st .line) (at-sender-acts .sender-acts .result .sending) (at-arrive .arrive .result) (at-arrive .arrive .ensures))
+mul-old-2 c = omega (arith, arrive-place (c .before .before .before))
 
 element-copy-out-old-2 : tie.Need-element-copy-out-old-2 Inv-loop μ-loop
-element-copy-out-old-2 c =
-    let at-arrive = c .before .before .before in
-    let at-sender-acts = at-arrive .before .before .before .before in
-    let at-loop = at-sender-acts .before .before .before .before .before .before .before .before .before .before .before .before in
-    arrive-at (at-loop .loop .st .network .limit) (at-loop .loop .st .network .bits) (at-loop .loop .st .line) (at-sender-acts .sender-acts .result .sending) (at-arrive .arrive .result) (at-arrive .arrive .ensures)
+element-copy-out-old-2 c = arrive-place (c .before .before .before)
 
 waiting-at-requires : tie.Need-waiting-at-requires Inv-loop μ-loop
 waiting-at-requires c κs = search needs
 
 mul-new-2 : tie.Need-mul-new-2 Inv-loop μ-loop
-mul-new-2 c =
-    let at-arrive = c .before .before .before .before .before in
-    let at-sender-acts = at-arrive .before .before .before .before in
-    let at-loop = at-sender-acts .before .before .before .before .before .before .before .before .before .before .before .before in
-    omega (arith, arrive-at (at-loop .loop .st .network .limit) (at-loop .loop .st .network .bits) (at-loop .loop .st .line) (at-sender-acts .sender-acts .result .sending) (at-arrive .arrive .result) (at-arrive .arrive .ensures))
+mul-new-2 c = omega (arith, arrive-place (c .before .before .before .before .before))
 
 element-set-from-new-2 : tie.Need-element-set-from-new-2 Inv-loop μ-loop
-element-set-from-new-2 c =
-    let at-arrive = c .before .before .before .before .before in
-    let at-sender-acts = at-arrive .before .before .before .before in
-    let at-loop = at-sender-acts .before .before .before .before .before .before .before .before .before .before .before .before in
-    arrive-at (at-loop .loop .st .network .limit) (at-loop .loop .st .network .bits) (at-loop .loop .st .line) (at-sender-acts .sender-acts .result .sending) (at-arrive .arrive .result) (at-arrive .arrive .ensures)
+element-set-from-new-2 c = arrive-place (c .before .before .before .before .before)
 
 mul-sent : tie.Need-mul-sent Inv-loop μ-loop
-mul-sent c =
-    let at-now2 = c .before .before .before .before .before .before .before .before .before .before .before .before in
-    let at-whose-turn = at-now2 .before .before in
-    let at-fit = at-whose-turn .before .before .before .before .before in
-    let at-loop = at-fit .before .before in
-    let turn = sender-turn (at-loop .loop .st) (at-fit .if1 .fit) (fit-known at-fit) (at-whose-turn .whose-turn .result) (at-whose-turn .whose-turn .ensures) _ (at-now2 .now2 .given .1) in
-    omega (arith, turn .below)
+mul-sent c = omega (arith, sender-known (c .before .before .before .before .before .before .before .before .before .before .before .before) .below)
 
 element-set-from-sent : tie.Need-element-set-from-sent Inv-loop μ-loop
-element-set-from-sent c =
-    let at-now2 = c .before .before .before .before .before .before .before .before .before .before .before .before in
-    let at-whose-turn = at-now2 .before .before in
-    let at-fit = at-whose-turn .before .before .before .before .before in
-    let at-loop = at-fit .before .before in
-    let turn = sender-turn (at-loop .loop .st) (at-fit .if1 .fit) (fit-known at-fit) (at-whose-turn .whose-turn .result) (at-whose-turn .whose-turn .ensures) _ (at-now2 .now2 .given .1) in
-    turn .below
+element-set-from-sent c = sender-known (c .before .before .before .before .before .before .before .before .before .before .before .before) .below
 
 mul-sender-after-2 : tie.Need-mul-sender-after-2 Inv-loop μ-loop
-mul-sender-after-2 c =
-    let at-now2 = c .before .before .before .before .before .before .before .before .before .before .before .before in
-    let at-whose-turn = at-now2 .before .before in
-    let at-fit = at-whose-turn .before .before .before .before .before in
-    let at-loop = at-fit .before .before in
-    let turn = sender-turn (at-loop .loop .st) (at-fit .if1 .fit) (fit-known at-fit) (at-whose-turn .whose-turn .result) (at-whose-turn .whose-turn .ensures) _ (at-now2 .now2 .given .1) in
-    omega (arith, turn .below)
+mul-sender-after-2 c = omega (arith, sender-known (c .before .before .before .before .before .before .before .before .before .before .before .before) .below)
 
 element-copy-out-sender-after-2 : tie.Need-element-copy-out-sender-after-2 Inv-loop μ-loop
-element-copy-out-sender-after-2 c =
-    let at-now2 = c .before .before .before .before .before .before .before .before .before .before .before .before in
-    let at-whose-turn = at-now2 .before .before in
-    let at-fit = at-whose-turn .before .before .before .before .before in
-    let at-loop = at-fit .before .before in
-    let turn = sender-turn (at-loop .loop .st) (at-fit .if1 .fit) (fit-known at-fit) (at-whose-turn .whose-turn .result) (at-whose-turn .whose-turn .ensures) _ (at-now2 .now2 .given .1) in
-    turn .below
+element-copy-out-sender-after-2 c = sender-known (c .before .before .before .before .before .before .before .before .before .before .before .before) .below
 
 mul-place-2 : tie.Need-mul-place-2 Inv-loop μ-loop
-mul-place-2 c =
-    let at-now2 = c .before .before .before .before .before .before .before .before .before .before .before .before .before in
-    let at-whose-turn = at-now2 .before .before in
-    let at-fit = at-whose-turn .before .before .before .before .before in
-    let at-loop = at-fit .before .before in
-    let turn = sender-turn (at-loop .loop .st) (at-fit .if1 .fit) (fit-known at-fit) (at-whose-turn .whose-turn .result) (at-whose-turn .whose-turn .ensures) _ (at-now2 .now2 .given .1) in
-    omega (arith, turn .below)
+mul-place-2 c = omega (arith, sender-known (c .before .before .before .before .before .before .before .before .before .before .before .before .before) .below)
 
 add-place-2 : tie.Need-add-place-2 Inv-loop μ-loop
-add-place-2 c =
-    let at-now2 = c .before .before .before .before .before .before .before .before .before .before .before .before .before in
-    let at-whose-turn = at-now2 .before .before in
-    let at-fit = at-whose-turn .before .before .before .before .before in
-    let at-loop = at-fit .before .before in
-    let turn = sender-turn (at-loop .loop .st) (at-fit .if1 .fit) (fit-known at-fit) (at-whose-turn .whose-turn .result) (at-whose-turn .whose-turn .ensures) _ (at-now2 .now2 .given .1) in
-    omega (arith, turn .below)
+add-place-2 c = omega (arith, sender-known (c .before .before .before .before .before .before .before .before .before .before .before .before .before) .below)
 
 mul-old-sender-2 : tie.Need-mul-old-sender-2 Inv-loop μ-loop
-mul-old-sender-2 c =
-    let at-now2 = c .before .before .before .before .before .before .before .before .before .before .before .before .before in
-    let at-whose-turn = at-now2 .before .before in
-    let at-fit = at-whose-turn .before .before .before .before .before in
-    let at-loop = at-fit .before .before in
-    let turn = sender-turn (at-loop .loop .st) (at-fit .if1 .fit) (fit-known at-fit) (at-whose-turn .whose-turn .result) (at-whose-turn .whose-turn .ensures) _ (at-now2 .now2 .given .1) in
-    omega (arith, turn .below)
+mul-old-sender-2 c = omega (arith, sender-known (c .before .before .before .before .before .before .before .before .before .before .before .before .before) .below)
 
 element-copy-out-old-sender-2 : tie.Need-element-copy-out-old-sender-2 Inv-loop μ-loop
-element-copy-out-old-sender-2 c =
-    let at-now2 = c .before .before .before .before .before .before .before .before .before .before .before .before .before in
-    let at-whose-turn = at-now2 .before .before in
-    let at-fit = at-whose-turn .before .before .before .before .before in
-    let at-loop = at-fit .before .before in
-    let turn = sender-turn (at-loop .loop .st) (at-fit .if1 .fit) (fit-known at-fit) (at-whose-turn .whose-turn .result) (at-whose-turn .whose-turn .ensures) _ (at-now2 .now2 .given .1) in
-    omega (arith, turn .below)
+element-copy-out-old-sender-2 c = omega (arith, sender-known (c .before .before .before .before .before .before .before .before .before .before .before .before .before) .below)
 
 sender-slot-requires-2 : tie.Need-sender-slot-requires-2 Inv-loop μ-loop
 sender-slot-requires-2 c κs = search needs
 
 mul-sender-slot-2 : tie.Need-mul-sender-slot-2 Inv-loop μ-loop
-mul-sender-slot-2 c =
-    let at-now2 = c .before .before .before .before .before .before .before .before .before .before .before .before .before .before .before in
-    let at-whose-turn = at-now2 .before .before in
-    let at-fit = at-whose-turn .before .before .before .before .before in
-    let at-loop = at-fit .before .before in
-    let turn = sender-turn (at-loop .loop .st) (at-fit .if1 .fit) (fit-known at-fit) (at-whose-turn .whose-turn .result) (at-whose-turn .whose-turn .ensures) _ (at-now2 .now2 .given .1) in
-    omega (arith, turn .below)
+mul-sender-slot-2 c = omega (arith, sender-known (c .before .before .before .before .before .before .before .before .before .before .before .before .before .before .before) .below)
 
 element-set-from-sender-slot-2 : tie.Need-element-set-from-sender-slot-2 Inv-loop μ-loop
-element-set-from-sender-slot-2 c =
-    let at-now2 = c .before .before .before .before .before .before .before .before .before .before .before .before .before .before .before in
-    let at-whose-turn = at-now2 .before .before in
-    let at-fit = at-whose-turn .before .before .before .before .before in
-    let at-loop = at-fit .before .before in
-    let turn = sender-turn (at-loop .loop .st) (at-fit .if1 .fit) (fit-known at-fit) (at-whose-turn .whose-turn .result) (at-whose-turn .whose-turn .ensures) _ (at-now2 .now2 .given .1) in
-    omega (arith, turn .below)
+element-set-from-sender-slot-2 c = omega (arith, sender-known (c .before .before .before .before .before .before .before .before .before .before .before .before .before .before .before) .below)
 
 mul-front-after-2 : tie.Need-mul-front-after-2 Inv-loop μ-loop
-mul-front-after-2 c =
-    let at-arrive = c .before .before .before .before .before .before .before .before in
-    let at-sender-acts = at-arrive .before .before .before .before in
-    let at-now2 = at-sender-acts .before .before .before in
-    let at-whose-turn = at-now2 .before .before in
-    let at-fit = at-whose-turn .before .before .before .before .before in
-    let at-loop = at-fit .before .before in
-    let turn = sender-turn (at-loop .loop .st) (at-fit .if1 .fit) (fit-known at-fit) (at-whose-turn .whose-turn .result) (at-whose-turn .whose-turn .ensures) _ (at-now2 .now2 .given .1) in
-    omega (arith, arrive-start (at-loop .loop .st .network .limit) (at-loop .loop .st .network .bits) (at-loop .loop .st .line) (at-sender-acts .sender-acts .result .sending) (at-arrive .arrive .result) (at-arrive .arrive .ensures) (turn .place .on-line-start))
+mul-front-after-2 c = omega (arith, arrive-front (c .before .before .before .before .before .before .before .before))
 
 element-copy-out-front-after-2 : tie.Need-element-copy-out-front-after-2 Inv-loop μ-loop
-element-copy-out-front-after-2 c =
-    let at-arrive = c .before .before .before .before .before .before .before .before in
-    let at-sender-acts = at-arrive .before .before .before .before in
-    let at-now2 = at-sender-acts .before .before .before in
-    let at-whose-turn = at-now2 .before .before in
-    let at-fit = at-whose-turn .before .before .before .before .before in
-    let at-loop = at-fit .before .before in
-    let turn = sender-turn (at-loop .loop .st) (at-fit .if1 .fit) (fit-known at-fit) (at-whose-turn .whose-turn .result) (at-whose-turn .whose-turn .ensures) _ (at-now2 .now2 .given .1) in
-    arrive-start (at-loop .loop .st .network .limit) (at-loop .loop .st .network .bits) (at-loop .loop .st .line) (at-sender-acts .sender-acts .result .sending) (at-arrive .arrive .result) (at-arrive .arrive .ensures) (turn .place .on-line-start)
+element-copy-out-front-after-2 c = arrive-front (c .before .before .before .before .before .before .before .before)
 
 element-copy-out-old-link-2 : tie.Need-element-copy-out-old-link-2 Inv-loop μ-loop
-element-copy-out-old-link-2 c =
-    omega (arith)
+element-copy-out-old-link-2 c = omega arith
 
 link-slot-requires-2 : tie.Need-link-slot-requires-2 Inv-loop μ-loop
 link-slot-requires-2 c κs = search needs
 
 element-set-from-link-slot-2 : tie.Need-element-set-from-link-slot-2 Inv-loop μ-loop
-element-set-from-link-slot-2 c =
-    omega (arith)
+element-set-from-link-slot-2 c = omega arith
 
 pick-requires-2 : tie.Need-pick-requires-2 Inv-loop μ-loop
 pick-requires-2 c κs = search needs
 
 mul-old-best-2 : tie.Need-mul-old-best-2 Inv-loop μ-loop
-mul-old-best-2 c =
-    let at-link-slot2 = c .before .before in
-    let at-sender-slot2 = at-link-slot2 .before .before .before in
-    let at-loop = at-sender-slot2 .before .before .before .before .before .before .before .before .before .before .before .before .before .before .before .before .before .before .before .before .before .before .before .before in
-    omega (arith, picked-small (at-loop .loop .st .queue) (at-loop .loop .inv .2) _ (at-sender-slot2 .sender-slot2 .result) 0 (at-link-slot2 .link-slot2 .result) (c .pick2 .result) (c .pick2 .ensures))
+mul-old-best-2 c = omega (arith, sender-picked c)
 
 element-copy-out-old-best-2 : tie.Need-element-copy-out-old-best-2 Inv-loop μ-loop
-element-copy-out-old-best-2 c =
-    let at-link-slot2 = c .before .before in
-    let at-sender-slot2 = at-link-slot2 .before .before .before in
-    let at-loop = at-sender-slot2 .before .before .before .before .before .before .before .before .before .before .before .before .before .before .before .before .before .before .before .before .before .before .before .before in
-    picked-small (at-loop .loop .st .queue) (at-loop .loop .inv .2) _ (at-sender-slot2 .sender-slot2 .result) 0 (at-link-slot2 .link-slot2 .result) (c .pick2 .result) (c .pick2 .ensures)
+element-copy-out-old-best-2 c = sender-picked c
 
 place-after-requires-2 : tie.Need-place-after-requires-2 Inv-loop μ-loop
 place-after-requires-2 c κs = search needs
@@ -643,82 +417,49 @@ head-of-requires-2 : tie.Need-head-of-requires-2 Inv-loop μ-loop
 head-of-requires-2 c κs = search needs
 
 mul-cleared-2 : tie.Need-mul-cleared-2 Inv-loop μ-loop
-mul-cleared-2 c =
-    let at-pick2 = c .before .before .before in
-    let at-link-slot2 = at-pick2 .before .before in
-    let at-sender-slot2 = at-link-slot2 .before .before .before in
-    let at-loop = at-sender-slot2 .before .before .before .before .before .before .before .before .before .before .before .before .before .before .before .before .before .before .before .before .before .before .before .before in
-    omega (arith, picked-small (at-loop .loop .st .queue) (at-loop .loop .inv .2) _ (at-sender-slot2 .sender-slot2 .result) 0 (at-link-slot2 .link-slot2 .result) (at-pick2 .pick2 .result) (at-pick2 .pick2 .ensures))
+mul-cleared-2 c = omega (arith, sender-picked (c .before .before .before))
 
 element-set-from-cleared-2 : tie.Need-element-set-from-cleared-2 Inv-loop μ-loop
-element-set-from-cleared-2 c =
-    let at-pick2 = c .before .before .before in
-    let at-link-slot2 = at-pick2 .before .before in
-    let at-sender-slot2 = at-link-slot2 .before .before .before in
-    let at-loop = at-sender-slot2 .before .before .before .before .before .before .before .before .before .before .before .before .before .before .before .before .before .before .before .before .before .before .before .before in
-    picked-small (at-loop .loop .st .queue) (at-loop .loop .inv .2) _ (at-sender-slot2 .sender-slot2 .result) 0 (at-link-slot2 .link-slot2 .result) (at-pick2 .pick2 .result) (at-pick2 .pick2 .ensures)
+element-set-from-cleared-2 c = sender-picked (c .before .before .before)
 
 sender-note-requires : tie.Need-sender-note-requires Inv-loop μ-loop
-sender-note-requires c κs =
-    let at-now2 = c .before .before .before .before .before .before .before .before .before .before .before .before .before .before .before .before .before .before .before .before .before .before .before in
-    let at-whose-turn = at-now2 .before .before in
-    let at-fit = at-whose-turn .before .before .before .before .before in
-    let at-loop = at-fit .before .before in
-    let turn = sender-turn (at-loop .loop .st) (at-fit .if1 .fit) (fit-known at-fit) (at-whose-turn .whose-turn .result) (at-whose-turn .whose-turn .ensures) _ (at-now2 .now2 .given .1) in
-    turn .below
+sender-note-requires c κs = sender-known (c .before .before .before .before .before .before .before .before .before .before .before .before .before .before .before .before .before .before .before .before .before .before .before) .below
 
 add-done-2 : tie.Need-add-done-2 Inv-loop μ-loop
-add-done-2 c =
-    let at-loop-test = c .before .before .before .before .before .before .before .before .before .before .before .before .before .before .before .before .before .before .before .before .before .before .before .before .before .before .before .before .before .before .before .before in
-    let start = at-loop-test .before .before .before .before in
-    omega (arith, at-loop-test .loop-test .taken, start .fits .n .fits)
+add-done-2 c = let w = c .before .before .before .before .before .before .before .before .before .before .before .before .before .before .before .before .before .before .before .before .before .before .before .before .before .before in omega (arith, w .before .before .before .before .before .before .loop-test .taken, w .before .before .before .before .before .before .before .before .before .before .fits .n .fits)
 
 loop-less-2 : tie.Need-loop-less-2 Inv-loop μ-loop
-loop-less-2 c =
-    let at-loop-test = c .before .before .before .before .before .before .before .before .before .before .before .before .before .before .before .before .before .before .before .before .before .before .before .before .before .before .before .before .before .before .before .before in
-    omega (arith, at-loop-test .loop-test .taken)
+loop-less-2 c = let w = c .before .before .before .before .before .before .before .before .before .before .before .before .before .before .before .before .before .before .before .before .before .before .before .before .before .before in omega (arith, w .before .before .before .before .before .before .loop-test .taken)
 
 loop-again-2 : tie.Need-loop-again-2 Inv-loop μ-loop
 loop-again-2 c =
-    let at-head-of2 = c .before in
-    let at-place-after2 = at-head-of2 .before in
-    let at-pick2 = at-place-after2 .before .before in
-    let at-link-slot2 = at-pick2 .before .before in
-    let at-sender-slot2 = at-link-slot2 .before .before .before in
-    let at-waiting-at = at-sender-slot2 .before .before .before in
+    let at-head-of = c .before in
+    let at-place-after = at-head-of .before in
+    let at-pick = at-place-after .before .before in
+    let at-link-slot = at-pick .before .before in
+    let at-sender-slot = at-link-slot .before .before .before in
+    let at-waiting-at = at-sender-slot .before .before .before in
     let at-if4 = at-waiting-at .before .before .before in
     let at-arrive = at-if4 .before .before in
     let at-if3 = at-arrive .before .before in
     let at-sender-acts = at-if3 .before .before in
-    let at-now2 = at-sender-acts .before .before .before in
-    let at-whose-turn = at-now2 .before .before in
-    let at-fit = at-whose-turn .before .before .before .before .before in
-    let at-loop-test = at-fit .before in
-    let at-loop = at-loop-test .before in
-    let turn = sender-turn (at-loop .loop .st) (at-fit .if1 .fit) (fit-known at-fit) (at-whose-turn .whose-turn .result) (at-whose-turn .whose-turn .ensures) _ (at-now2 .now2 .given .1) in
-    let l = at-loop .loop in
-    (omega (arith, at-loop-test .loop-test .taken), l .inv .1, thrice (l .st .queue) (l .inv .2) _ _ _ _ _ _, goes-steady _ _ _ (l .st) (at-loop-test .loop-test .taken) _ _ (sender-stored (at-loop .loop .st) _ turn (at-sender-acts .sender-acts .result) (at-sender-acts .sender-acts .ensures) (at-if3 .if3 .left) (at-arrive .arrive .result) (at-arrive .arrive .ensures) (at-if4 .if4 .left) (at-waiting-at .waiting-at .result) (at-waiting-at .waiting-at .ensures) (at-sender-slot2 .sender-slot2 .result) (at-sender-slot2 .sender-slot2 .ensures) (at-link-slot2 .link-slot2 .result) (at-link-slot2 .link-slot2 .ensures) (at-pick2 .pick2 .result) (at-pick2 .pick2 .ensures) (at-place-after2 .place-after2 .result) (at-place-after2 .place-after2 .ensures) (at-head-of2 .head-of2 .result) (at-head-of2 .head-of2 .ensures) (c .sender-note .result) (c .sender-note .ensures)) _ _ (l .inv .3))
+    let e = at-sender-acts .before .before .before in
+    let w = e .before .before in
+    let l = w .before .before .before .before .before .before .before .loop in
+    moved w _ _
+    (sender-stored (l .st) _ (sender-known e) (at-sender-acts .sender-acts .result) (at-sender-acts .sender-acts .ensures) (at-if3 .if3 .left) (at-arrive .arrive .result) (at-arrive .arrive .ensures) (at-if4 .if4 .left)
+    (at-waiting-at .waiting-at .result) (at-waiting-at .waiting-at .ensures) (at-sender-slot .sender-slot2 .result) (at-sender-slot .sender-slot2 .ensures) (at-link-slot .link-slot2 .result) (at-link-slot .link-slot2 .ensures)
+    (at-pick .pick2 .result) (at-pick .pick2 .ensures) (at-place-after .place-after2 .result) (at-place-after .place-after2 .ensures) (at-head-of .head-of2 .result) (at-head-of .head-of2 .ensures) (c .sender-note .result) (c .sender-note .ensures))
+    (l .inv .1) (thrice (l .st .queue) (l .inv .2) _ _ _ _ _ _)
 
 enum-known-now-3 : tie.Need-enum-known-now-3 Inv-loop μ-loop
 enum-known-now-3 c = search needs
 
 mul-toggler : tie.Need-mul-toggler Inv-loop μ-loop
-mul-toggler c =
-    let at-now3 = c .before in
-    let at-whose-turn = at-now3 .before .before in
-    let at-fit = at-whose-turn .before .before .before .before .before in
-    let at-loop = at-fit .before .before in
-    let turn = toggler-turn (at-loop .loop .st) (at-fit .if1 .fit) (fit-known at-fit) (at-whose-turn .whose-turn .result) (at-whose-turn .whose-turn .ensures) _ (at-now3 .now3 .given .1) in
-    omega (arith, turn .below)
+mul-toggler c = omega (arith, toggler-known (c .before) .below)
 
 element-copy-out-toggler : tie.Need-element-copy-out-toggler Inv-loop μ-loop
-element-copy-out-toggler c =
-    let at-now3 = c .before in
-    let at-whose-turn = at-now3 .before .before in
-    let at-fit = at-whose-turn .before .before .before .before .before in
-    let at-loop = at-fit .before .before in
-    let turn = toggler-turn (at-loop .loop .st) (at-fit .if1 .fit) (fit-known at-fit) (at-whose-turn .whose-turn .result) (at-whose-turn .whose-turn .ensures) _ (at-now3 .now3 .given .1) in
-    turn .below
+element-copy-out-toggler c = toggler-known (c .before) .below
 
 toggle-requires : tie.Need-toggle-requires Inv-loop μ-loop
 toggle-requires c κs = search needs
@@ -728,51 +469,22 @@ empty-record-requires-6 c κs = search needs
 
 returns-5 : tie.Need-returns-5 Inv-loop μ-loop
 returns-5 c =
-    let at-if5 = c .before in
-    let at-toggle = at-if5 .before .before in
-    let at-now3 = at-toggle .before .before .before in
-    let at-whose-turn = at-now3 .before .before in
-    let at-fit = at-whose-turn .before .before .before .before .before in
-    let at-loop-test = at-fit .before in
-    let at-loop = at-loop-test .before in
-    let turn = toggler-turn (at-loop .loop .st) (at-fit .if1 .fit) (fit-known at-fit) (at-whose-turn .whose-turn .result) (at-whose-turn .whose-turn .ensures) _ (at-now3 .now3 .given .1) in
-    rw (c .empty-record6 .ensures) (stops-there _ _ _ (at-loop .loop .st) (at-loop-test .loop-test .taken) _ (turn .tick ∙ ap (ticked (at-loop .loop .st)) (toggler-stops (at-loop .loop .st) _ (at-toggle .toggle .result) (at-toggle .toggle .ensures) (ne-eqb _ _ (at-if5 .if5 .taken)))) ∙ at-loop .loop .inv .3 .0)
+    let t = c .before .before .before .toggle in
+    let e = c .before .before .before .before .before .before in
+    let s = now-at (e .before .before) in
+    stopped (e .before .before) _ (toggler-known e .tick ∙ ap (ticked s) (toggler-stops s _ (t .result) (t .ensures) (ne-eqb _ _ (c .before .if5 .taken)))) (c .empty-record6 .result) (c .empty-record6 .ensures)
 
 mul-sender-3 : tie.Need-mul-sender-3 Inv-loop μ-loop
-mul-sender-3 c =
-    let at-now3 = c .before .before .before .before .before .before in
-    let at-whose-turn = at-now3 .before .before in
-    let at-fit = at-whose-turn .before .before .before .before .before in
-    let at-loop = at-fit .before .before in
-    let turn = toggler-turn (at-loop .loop .st) (at-fit .if1 .fit) (fit-known at-fit) (at-whose-turn .whose-turn .result) (at-whose-turn .whose-turn .ensures) _ (at-now3 .now3 .given .1) in
-    omega (arith, turn .below)
+mul-sender-3 c = omega (arith, toggler-known (c .before .before .before .before .before .before) .below)
 
 element-copy-out-sender-3 : tie.Need-element-copy-out-sender-3 Inv-loop μ-loop
-element-copy-out-sender-3 c =
-    let at-now3 = c .before .before .before .before .before .before in
-    let at-whose-turn = at-now3 .before .before in
-    let at-fit = at-whose-turn .before .before .before .before .before in
-    let at-loop = at-fit .before .before in
-    let turn = toggler-turn (at-loop .loop .st) (at-fit .if1 .fit) (fit-known at-fit) (at-whose-turn .whose-turn .result) (at-whose-turn .whose-turn .ensures) _ (at-now3 .now3 .given .1) in
-    turn .below
+element-copy-out-sender-3 c = toggler-known (c .before .before .before .before .before .before) .below
 
 mul-meter-2 : tie.Need-mul-meter-2 Inv-loop μ-loop
-mul-meter-2 c =
-    let at-now3 = c .before .before .before .before .before .before .before in
-    let at-whose-turn = at-now3 .before .before in
-    let at-fit = at-whose-turn .before .before .before .before .before in
-    let at-loop = at-fit .before .before in
-    let turn = toggler-turn (at-loop .loop .st) (at-fit .if1 .fit) (fit-known at-fit) (at-whose-turn .whose-turn .result) (at-whose-turn .whose-turn .ensures) _ (at-now3 .now3 .given .1) in
-    omega (arith, turn .below)
+mul-meter-2 c = omega (arith, toggler-known (c .before .before .before .before .before .before .before) .below)
 
 element-copy-out-meter-2 : tie.Need-element-copy-out-meter-2 Inv-loop μ-loop
-element-copy-out-meter-2 c =
-    let at-now3 = c .before .before .before .before .before .before .before in
-    let at-whose-turn = at-now3 .before .before in
-    let at-fit = at-whose-turn .before .before .before .before .before in
-    let at-loop = at-fit .before .before in
-    let turn = toggler-turn (at-loop .loop .st) (at-fit .if1 .fit) (fit-known at-fit) (at-whose-turn .whose-turn .result) (at-whose-turn .whose-turn .ensures) _ (at-now3 .now3 .given .1) in
-    turn .below
+element-copy-out-meter-2 c = toggler-known (c .before .before .before .before .before .before .before) .below
 
 switched-requires : tie.Need-switched-requires Inv-loop μ-loop
 switched-requires c κs = search needs
@@ -781,207 +493,79 @@ switch-of-requires : tie.Need-switch-of-requires Inv-loop μ-loop
 switch-of-requires c κs = search needs
 
 mul-toggled : tie.Need-mul-toggled Inv-loop μ-loop
-mul-toggled c =
-    let at-now3 = c .before .before .before .before .before .before .before .before .before .before .before in
-    let at-whose-turn = at-now3 .before .before in
-    let at-fit = at-whose-turn .before .before .before .before .before in
-    let at-loop = at-fit .before .before in
-    let turn = toggler-turn (at-loop .loop .st) (at-fit .if1 .fit) (fit-known at-fit) (at-whose-turn .whose-turn .result) (at-whose-turn .whose-turn .ensures) _ (at-now3 .now3 .given .1) in
-    omega (arith, turn .below)
+mul-toggled c = omega (arith, toggler-known (c .before .before .before .before .before .before .before .before .before .before .before) .below)
 
 element-set-from-toggled : tie.Need-element-set-from-toggled Inv-loop μ-loop
-element-set-from-toggled c =
-    let at-now3 = c .before .before .before .before .before .before .before .before .before .before .before in
-    let at-whose-turn = at-now3 .before .before in
-    let at-fit = at-whose-turn .before .before .before .before .before in
-    let at-loop = at-fit .before .before in
-    let turn = toggler-turn (at-loop .loop .st) (at-fit .if1 .fit) (fit-known at-fit) (at-whose-turn .whose-turn .result) (at-whose-turn .whose-turn .ensures) _ (at-now3 .now3 .given .1) in
-    turn .below
+element-set-from-toggled c = toggler-known (c .before .before .before .before .before .before .before .before .before .before .before) .below
 
 mul-switched : tie.Need-mul-switched Inv-loop μ-loop
-mul-switched c =
-    let at-now3 = c .before .before .before .before .before .before .before .before .before .before .before in
-    let at-whose-turn = at-now3 .before .before in
-    let at-fit = at-whose-turn .before .before .before .before .before in
-    let at-loop = at-fit .before .before in
-    let turn = toggler-turn (at-loop .loop .st) (at-fit .if1 .fit) (fit-known at-fit) (at-whose-turn .whose-turn .result) (at-whose-turn .whose-turn .ensures) _ (at-now3 .now3 .given .1) in
-    omega (arith, turn .below)
+mul-switched c = omega (arith, toggler-known (c .before .before .before .before .before .before .before .before .before .before .before) .below)
 
 element-set-from-switched : tie.Need-element-set-from-switched Inv-loop μ-loop
-element-set-from-switched c =
-    let at-now3 = c .before .before .before .before .before .before .before .before .before .before .before in
-    let at-whose-turn = at-now3 .before .before in
-    let at-fit = at-whose-turn .before .before .before .before .before in
-    let at-loop = at-fit .before .before in
-    let turn = toggler-turn (at-loop .loop .st) (at-fit .if1 .fit) (fit-known at-fit) (at-whose-turn .whose-turn .result) (at-whose-turn .whose-turn .ensures) _ (at-now3 .now3 .given .1) in
-    turn .below
+element-set-from-switched c = toggler-known (c .before .before .before .before .before .before .before .before .before .before .before) .below
 
 mul-metered : tie.Need-mul-metered Inv-loop μ-loop
-mul-metered c =
-    let at-now3 = c .before .before .before .before .before .before .before .before .before .before .before in
-    let at-whose-turn = at-now3 .before .before in
-    let at-fit = at-whose-turn .before .before .before .before .before in
-    let at-loop = at-fit .before .before in
-    let turn = toggler-turn (at-loop .loop .st) (at-fit .if1 .fit) (fit-known at-fit) (at-whose-turn .whose-turn .result) (at-whose-turn .whose-turn .ensures) _ (at-now3 .now3 .given .1) in
-    omega (arith, turn .below)
+mul-metered c = omega (arith, toggler-known (c .before .before .before .before .before .before .before .before .before .before .before) .below)
 
 element-set-from-metered : tie.Need-element-set-from-metered Inv-loop μ-loop
-element-set-from-metered c =
-    let at-now3 = c .before .before .before .before .before .before .before .before .before .before .before in
-    let at-whose-turn = at-now3 .before .before in
-    let at-fit = at-whose-turn .before .before .before .before .before in
-    let at-loop = at-fit .before .before in
-    let turn = toggler-turn (at-loop .loop .st) (at-fit .if1 .fit) (fit-known at-fit) (at-whose-turn .whose-turn .result) (at-whose-turn .whose-turn .ensures) _ (at-now3 .now3 .given .1) in
-    turn .below
+element-set-from-metered c = toggler-known (c .before .before .before .before .before .before .before .before .before .before .before) .below
 
 mul-toggler-after : tie.Need-mul-toggler-after Inv-loop μ-loop
-mul-toggler-after c =
-    let at-now3 = c .before .before .before .before .before .before .before .before .before .before .before in
-    let at-whose-turn = at-now3 .before .before in
-    let at-fit = at-whose-turn .before .before .before .before .before in
-    let at-loop = at-fit .before .before in
-    let turn = toggler-turn (at-loop .loop .st) (at-fit .if1 .fit) (fit-known at-fit) (at-whose-turn .whose-turn .result) (at-whose-turn .whose-turn .ensures) _ (at-now3 .now3 .given .1) in
-    omega (arith, turn .below)
+mul-toggler-after c = omega (arith, toggler-known (c .before .before .before .before .before .before .before .before .before .before .before) .below)
 
 element-copy-out-toggler-after : tie.Need-element-copy-out-toggler-after Inv-loop μ-loop
-element-copy-out-toggler-after c =
-    let at-now3 = c .before .before .before .before .before .before .before .before .before .before .before in
-    let at-whose-turn = at-now3 .before .before in
-    let at-fit = at-whose-turn .before .before .before .before .before in
-    let at-loop = at-fit .before .before in
-    let turn = toggler-turn (at-loop .loop .st) (at-fit .if1 .fit) (fit-known at-fit) (at-whose-turn .whose-turn .result) (at-whose-turn .whose-turn .ensures) _ (at-now3 .now3 .given .1) in
-    turn .below
+element-copy-out-toggler-after c = toggler-known (c .before .before .before .before .before .before .before .before .before .before .before) .below
 
 mul-toggler-place : tie.Need-mul-toggler-place Inv-loop μ-loop
-mul-toggler-place c =
-    let at-now3 = c .before .before .before .before .before .before .before .before .before .before .before .before in
-    let at-whose-turn = at-now3 .before .before in
-    let at-fit = at-whose-turn .before .before .before .before .before in
-    let at-loop = at-fit .before .before in
-    let turn = toggler-turn (at-loop .loop .st) (at-fit .if1 .fit) (fit-known at-fit) (at-whose-turn .whose-turn .result) (at-whose-turn .whose-turn .ensures) _ (at-now3 .now3 .given .1) in
-    omega (arith, turn .below)
+mul-toggler-place c = omega (arith, toggler-known (c .before .before .before .before .before .before .before .before .before .before .before .before) .below)
 
 add-toggler-place : tie.Need-add-toggler-place Inv-loop μ-loop
-add-toggler-place c =
-    let at-now3 = c .before .before .before .before .before .before .before .before .before .before .before .before in
-    let at-whose-turn = at-now3 .before .before in
-    let at-fit = at-whose-turn .before .before .before .before .before in
-    let at-loop = at-fit .before .before in
-    let turn = toggler-turn (at-loop .loop .st) (at-fit .if1 .fit) (fit-known at-fit) (at-whose-turn .whose-turn .result) (at-whose-turn .whose-turn .ensures) _ (at-now3 .now3 .given .1) in
-    omega (arith, turn .below)
+add-toggler-place c = omega (arith, toggler-known (c .before .before .before .before .before .before .before .before .before .before .before .before) .below)
 
 toggler-slot-requires : tie.Need-toggler-slot-requires Inv-loop μ-loop
 toggler-slot-requires c κs = search needs
 
 mul-toggler-slot : tie.Need-mul-toggler-slot Inv-loop μ-loop
-mul-toggler-slot c =
-    let at-now3 = c .before .before .before .before .before .before .before .before .before .before .before .before .before in
-    let at-whose-turn = at-now3 .before .before in
-    let at-fit = at-whose-turn .before .before .before .before .before in
-    let at-loop = at-fit .before .before in
-    let turn = toggler-turn (at-loop .loop .st) (at-fit .if1 .fit) (fit-known at-fit) (at-whose-turn .whose-turn .result) (at-whose-turn .whose-turn .ensures) _ (at-now3 .now3 .given .1) in
-    omega (arith, turn .below)
+mul-toggler-slot c = omega (arith, toggler-known (c .before .before .before .before .before .before .before .before .before .before .before .before .before) .below)
 
 element-set-from-toggler-slot : tie.Need-element-set-from-toggler-slot Inv-loop μ-loop
-element-set-from-toggler-slot c =
-    let at-now3 = c .before .before .before .before .before .before .before .before .before .before .before .before .before in
-    let at-whose-turn = at-now3 .before .before in
-    let at-fit = at-whose-turn .before .before .before .before .before in
-    let at-loop = at-fit .before .before in
-    let turn = toggler-turn (at-loop .loop .st) (at-fit .if1 .fit) (fit-known at-fit) (at-whose-turn .whose-turn .result) (at-whose-turn .whose-turn .ensures) _ (at-now3 .now3 .given .1) in
-    omega (arith, turn .below)
+element-set-from-toggler-slot c = omega (arith, toggler-known (c .before .before .before .before .before .before .before .before .before .before .before .before .before) .below)
 
 mul-sender-after-3 : tie.Need-mul-sender-after-3 Inv-loop μ-loop
-mul-sender-after-3 c =
-    let at-now3 = c .before .before .before .before .before .before .before .before .before .before .before .before .before in
-    let at-whose-turn = at-now3 .before .before in
-    let at-fit = at-whose-turn .before .before .before .before .before in
-    let at-loop = at-fit .before .before in
-    let turn = toggler-turn (at-loop .loop .st) (at-fit .if1 .fit) (fit-known at-fit) (at-whose-turn .whose-turn .result) (at-whose-turn .whose-turn .ensures) _ (at-now3 .now3 .given .1) in
-    omega (arith, turn .below)
+mul-sender-after-3 c = omega (arith, toggler-known (c .before .before .before .before .before .before .before .before .before .before .before .before .before) .below)
 
 element-copy-out-sender-after-3 : tie.Need-element-copy-out-sender-after-3 Inv-loop μ-loop
-element-copy-out-sender-after-3 c =
-    let at-now3 = c .before .before .before .before .before .before .before .before .before .before .before .before .before in
-    let at-whose-turn = at-now3 .before .before in
-    let at-fit = at-whose-turn .before .before .before .before .before in
-    let at-loop = at-fit .before .before in
-    let turn = toggler-turn (at-loop .loop .st) (at-fit .if1 .fit) (fit-known at-fit) (at-whose-turn .whose-turn .result) (at-whose-turn .whose-turn .ensures) _ (at-now3 .now3 .given .1) in
-    turn .below
+element-copy-out-sender-after-3 c = toggler-known (c .before .before .before .before .before .before .before .before .before .before .before .before .before) .below
 
 mul-place-3 : tie.Need-mul-place-3 Inv-loop μ-loop
-mul-place-3 c =
-    let at-now3 = c .before .before .before .before .before .before .before .before .before .before .before .before .before .before in
-    let at-whose-turn = at-now3 .before .before in
-    let at-fit = at-whose-turn .before .before .before .before .before in
-    let at-loop = at-fit .before .before in
-    let turn = toggler-turn (at-loop .loop .st) (at-fit .if1 .fit) (fit-known at-fit) (at-whose-turn .whose-turn .result) (at-whose-turn .whose-turn .ensures) _ (at-now3 .now3 .given .1) in
-    omega (arith, turn .below)
+mul-place-3 c = omega (arith, toggler-known (c .before .before .before .before .before .before .before .before .before .before .before .before .before .before) .below)
 
 add-place-3 : tie.Need-add-place-3 Inv-loop μ-loop
-add-place-3 c =
-    let at-now3 = c .before .before .before .before .before .before .before .before .before .before .before .before .before .before in
-    let at-whose-turn = at-now3 .before .before in
-    let at-fit = at-whose-turn .before .before .before .before .before in
-    let at-loop = at-fit .before .before in
-    let turn = toggler-turn (at-loop .loop .st) (at-fit .if1 .fit) (fit-known at-fit) (at-whose-turn .whose-turn .result) (at-whose-turn .whose-turn .ensures) _ (at-now3 .now3 .given .1) in
-    omega (arith, turn .below)
+add-place-3 c = omega (arith, toggler-known (c .before .before .before .before .before .before .before .before .before .before .before .before .before .before) .below)
 
 mul-old-sender-3 : tie.Need-mul-old-sender-3 Inv-loop μ-loop
-mul-old-sender-3 c =
-    let at-now3 = c .before .before .before .before .before .before .before .before .before .before .before .before .before .before in
-    let at-whose-turn = at-now3 .before .before in
-    let at-fit = at-whose-turn .before .before .before .before .before in
-    let at-loop = at-fit .before .before in
-    let turn = toggler-turn (at-loop .loop .st) (at-fit .if1 .fit) (fit-known at-fit) (at-whose-turn .whose-turn .result) (at-whose-turn .whose-turn .ensures) _ (at-now3 .now3 .given .1) in
-    omega (arith, turn .below)
+mul-old-sender-3 c = omega (arith, toggler-known (c .before .before .before .before .before .before .before .before .before .before .before .before .before .before) .below)
 
 element-copy-out-old-sender-3 : tie.Need-element-copy-out-old-sender-3 Inv-loop μ-loop
-element-copy-out-old-sender-3 c =
-    let at-now3 = c .before .before .before .before .before .before .before .before .before .before .before .before .before .before in
-    let at-whose-turn = at-now3 .before .before in
-    let at-fit = at-whose-turn .before .before .before .before .before in
-    let at-loop = at-fit .before .before in
-    let turn = toggler-turn (at-loop .loop .st) (at-fit .if1 .fit) (fit-known at-fit) (at-whose-turn .whose-turn .result) (at-whose-turn .whose-turn .ensures) _ (at-now3 .now3 .given .1) in
-    omega (arith, turn .below)
+element-copy-out-old-sender-3 c = omega (arith, toggler-known (c .before .before .before .before .before .before .before .before .before .before .before .before .before .before) .below)
 
 sender-slot-requires-3 : tie.Need-sender-slot-requires-3 Inv-loop μ-loop
 sender-slot-requires-3 c κs = search needs
 
 mul-sender-slot-3 : tie.Need-mul-sender-slot-3 Inv-loop μ-loop
-mul-sender-slot-3 c =
-    let at-now3 = c .before .before .before .before .before .before .before .before .before .before .before .before .before .before .before .before in
-    let at-whose-turn = at-now3 .before .before in
-    let at-fit = at-whose-turn .before .before .before .before .before in
-    let at-loop = at-fit .before .before in
-    let turn = toggler-turn (at-loop .loop .st) (at-fit .if1 .fit) (fit-known at-fit) (at-whose-turn .whose-turn .result) (at-whose-turn .whose-turn .ensures) _ (at-now3 .now3 .given .1) in
-    omega (arith, turn .below)
+mul-sender-slot-3 c = omega (arith, toggler-known (c .before .before .before .before .before .before .before .before .before .before .before .before .before .before .before .before) .below)
 
 element-set-from-sender-slot-3 : tie.Need-element-set-from-sender-slot-3 Inv-loop μ-loop
-element-set-from-sender-slot-3 c =
-    let at-now3 = c .before .before .before .before .before .before .before .before .before .before .before .before .before .before .before .before in
-    let at-whose-turn = at-now3 .before .before in
-    let at-fit = at-whose-turn .before .before .before .before .before in
-    let at-loop = at-fit .before .before in
-    let turn = toggler-turn (at-loop .loop .st) (at-fit .if1 .fit) (fit-known at-fit) (at-whose-turn .whose-turn .result) (at-whose-turn .whose-turn .ensures) _ (at-now3 .now3 .given .1) in
-    omega (arith, turn .below)
+element-set-from-sender-slot-3 c = omega (arith, toggler-known (c .before .before .before .before .before .before .before .before .before .before .before .before .before .before .before .before) .below)
 
 pick-requires-3 : tie.Need-pick-requires-3 Inv-loop μ-loop
 pick-requires-3 c κs = search needs
 
 mul-old-best-3 : tie.Need-mul-old-best-3 Inv-loop μ-loop
-mul-old-best-3 c =
-    let at-sender-slot3 = c .before .before in
-    let at-toggler-slot = at-sender-slot3 .before .before .before in
-    let at-loop = at-toggler-slot .before .before .before .before .before .before .before .before .before .before .before .before .before .before .before .before .before .before .before .before .before .before in
-    omega (arith, picked-small (at-loop .loop .st .queue) (at-loop .loop .inv .2) _ (at-toggler-slot .toggler-slot .result) _ (at-sender-slot3 .sender-slot3 .result) (c .pick3 .result) (c .pick3 .ensures))
+mul-old-best-3 c = omega (arith, toggler-picked c)
 
 element-copy-out-old-best-3 : tie.Need-element-copy-out-old-best-3 Inv-loop μ-loop
-element-copy-out-old-best-3 c =
-    let at-sender-slot3 = c .before .before in
-    let at-toggler-slot = at-sender-slot3 .before .before .before in
-    let at-loop = at-toggler-slot .before .before .before .before .before .before .before .before .before .before .before .before .before .before .before .before .before .before .before .before .before .before in
-    picked-small (at-loop .loop .st .queue) (at-loop .loop .inv .2) _ (at-toggler-slot .toggler-slot .result) _ (at-sender-slot3 .sender-slot3 .result) (c .pick3 .result) (c .pick3 .ensures)
+element-copy-out-old-best-3 c = toggler-picked c
 
 place-after-requires-3 : tie.Need-place-after-requires-3 Inv-loop μ-loop
 place-after-requires-3 c κs = search needs
@@ -990,60 +574,39 @@ head-of-requires-3 : tie.Need-head-of-requires-3 Inv-loop μ-loop
 head-of-requires-3 c κs = search needs
 
 mul-cleared-3 : tie.Need-mul-cleared-3 Inv-loop μ-loop
-mul-cleared-3 c =
-    let at-pick3 = c .before .before .before in
-    let at-sender-slot3 = at-pick3 .before .before in
-    let at-toggler-slot = at-sender-slot3 .before .before .before in
-    let at-loop = at-toggler-slot .before .before .before .before .before .before .before .before .before .before .before .before .before .before .before .before .before .before .before .before .before .before in
-    omega (arith, picked-small (at-loop .loop .st .queue) (at-loop .loop .inv .2) _ (at-toggler-slot .toggler-slot .result) _ (at-sender-slot3 .sender-slot3 .result) (at-pick3 .pick3 .result) (at-pick3 .pick3 .ensures))
+mul-cleared-3 c = omega (arith, toggler-picked (c .before .before .before))
 
 element-set-from-cleared-3 : tie.Need-element-set-from-cleared-3 Inv-loop μ-loop
-element-set-from-cleared-3 c =
-    let at-pick3 = c .before .before .before in
-    let at-sender-slot3 = at-pick3 .before .before in
-    let at-toggler-slot = at-sender-slot3 .before .before .before in
-    let at-loop = at-toggler-slot .before .before .before .before .before .before .before .before .before .before .before .before .before .before .before .before .before .before .before .before .before .before in
-    picked-small (at-loop .loop .st .queue) (at-loop .loop .inv .2) _ (at-toggler-slot .toggler-slot .result) _ (at-sender-slot3 .sender-slot3 .result) (at-pick3 .pick3 .result) (at-pick3 .pick3 .ensures)
+element-set-from-cleared-3 c = toggler-picked (c .before .before .before)
 
 toggler-note-requires : tie.Need-toggler-note-requires Inv-loop μ-loop
-toggler-note-requires c κs =
-    let at-now3 = c .before .before .before .before .before .before .before .before .before .before .before .before .before .before .before .before .before .before .before .before .before in
-    let at-whose-turn = at-now3 .before .before in
-    let at-fit = at-whose-turn .before .before .before .before .before in
-    let at-loop = at-fit .before .before in
-    let turn = toggler-turn (at-loop .loop .st) (at-fit .if1 .fit) (fit-known at-fit) (at-whose-turn .whose-turn .result) (at-whose-turn .whose-turn .ensures) _ (at-now3 .now3 .given .1) in
-    turn .below
+toggler-note-requires c κs = toggler-known (c .before .before .before .before .before .before .before .before .before .before .before .before .before .before .before .before .before .before .before .before .before) .below
 
 add-done-3 : tie.Need-add-done-3 Inv-loop μ-loop
-add-done-3 c =
-    let at-loop-test = c .before .before .before .before .before .before .before .before .before .before .before .before .before .before .before .before .before .before .before .before .before .before .before .before .before .before .before .before .before .before in
-    let start = at-loop-test .before .before .before .before in
-    omega (arith, at-loop-test .loop-test .taken, start .fits .n .fits)
+add-done-3 c = let w = c .before .before .before .before .before .before .before .before .before .before .before .before .before .before .before .before .before .before .before .before .before .before .before .before in omega (arith, w .before .before .before .before .before .before .loop-test .taken, w .before .before .before .before .before .before .before .before .before .before .fits .n .fits)
 
 loop-less-3 : tie.Need-loop-less-3 Inv-loop μ-loop
-loop-less-3 c =
-    let at-loop-test = c .before .before .before .before .before .before .before .before .before .before .before .before .before .before .before .before .before .before .before .before .before .before .before .before .before .before .before .before .before .before in
-    omega (arith, at-loop-test .loop-test .taken)
+loop-less-3 c = let w = c .before .before .before .before .before .before .before .before .before .before .before .before .before .before .before .before .before .before .before .before .before .before .before .before in omega (arith, w .before .before .before .before .before .before .loop-test .taken)
 
 loop-again-3 : tie.Need-loop-again-3 Inv-loop μ-loop
 loop-again-3 c =
-    let at-head-of3 = c .before in
-    let at-place-after3 = at-head-of3 .before in
-    let at-pick3 = at-place-after3 .before .before in
-    let at-sender-slot3 = at-pick3 .before .before in
-    let at-toggler-slot = at-sender-slot3 .before .before .before in
+    let at-head-of = c .before in
+    let at-place-after = at-head-of .before in
+    let at-pick = at-place-after .before .before in
+    let at-sender-slot = at-pick .before .before in
+    let at-toggler-slot = at-sender-slot .before .before .before in
     let at-switch = at-toggler-slot .before .before .before in
     let at-switched = at-switch .before in
     let at-if5 = at-switched .before .before .before .before in
     let at-toggle = at-if5 .before .before in
-    let at-now3 = at-toggle .before .before .before in
-    let at-whose-turn = at-now3 .before .before in
-    let at-fit = at-whose-turn .before .before .before .before .before in
-    let at-loop-test = at-fit .before in
-    let at-loop = at-loop-test .before in
-    let turn = toggler-turn (at-loop .loop .st) (at-fit .if1 .fit) (fit-known at-fit) (at-whose-turn .whose-turn .result) (at-whose-turn .whose-turn .ensures) _ (at-now3 .now3 .given .1) in
-    let l = at-loop .loop in
-    (omega (arith, at-loop-test .loop-test .taken), l .inv .1, thrice (l .st .queue) (l .inv .2) _ _ _ _ _ _, goes-steady _ _ _ (l .st) (at-loop-test .loop-test .taken) _ _ (toggler-stored (at-loop .loop .st) _ turn (at-toggle .toggle .result) (at-toggle .toggle .ensures) (at-if5 .if5 .left) (at-switched .switched .result) (at-switched .switched .ensures) (at-switch .switch-of .result) (at-switch .switch-of .ensures) (at-toggler-slot .toggler-slot .result) (at-toggler-slot .toggler-slot .ensures) (at-sender-slot3 .sender-slot3 .result) (at-sender-slot3 .sender-slot3 .ensures) (at-pick3 .pick3 .result) (at-pick3 .pick3 .ensures) (at-place-after3 .place-after3 .result) (at-place-after3 .place-after3 .ensures) (at-head-of3 .head-of3 .result) (at-head-of3 .head-of3 .ensures) (c .toggler-note .result) (c .toggler-note .ensures)) _ _ (l .inv .3))
+    let e = at-toggle .before .before .before in
+    let w = e .before .before in
+    let l = w .before .before .before .before .before .before .before .loop in
+    moved w _ _
+    (toggler-stored (l .st) _ (toggler-known e) (at-toggle .toggle .result) (at-toggle .toggle .ensures) (at-if5 .if5 .left) (at-switched .switched .result) (at-switched .switched .ensures) (at-switch .switch-of .result) (at-switch .switch-of .ensures)
+    (at-toggler-slot .toggler-slot .result) (at-toggler-slot .toggler-slot .ensures) (at-sender-slot .sender-slot3 .result) (at-sender-slot .sender-slot3 .ensures)
+    (at-pick .pick3 .result) (at-pick .pick3 .ensures) (at-place-after .place-after3 .result) (at-place-after .place-after3 .ensures) (at-head-of .head-of3 .result) (at-head-of .head-of3 .ensures) (c .toggler-note .result) (c .toggler-note .ensures))
+    (l .inv .1) (thrice (l .st .queue) (l .inv .2) _ _ _ _ _ _)
 
 returns-6 : tie.Need-returns-6 Inv-loop μ-loop
 returns-6 c =
