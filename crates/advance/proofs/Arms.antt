@@ -1,22 +1,17 @@
 -- A turn's outcome, as the loop stores it. One variable and one equation for each call of an arm would not do more: these laws hold at the definitions themselves. Assumes nothing.
-use mathlib.Core.Path.{_≡_, refl, sym, ap, ap₂, subst, _∙_}
-use mathlib.Core.Bool.{Bool, true, false, not, cond, true≢false}
-use mathlib.Core.List.{List, [], _∷_}
+use mathlib.Core.Path.{_≡_, refl, sym, ap, _∙_}
+use mathlib.Core.Bool.{Bool, true, false, cond, true≢false}
 use Prim.Native.Nat.{ℕ, _+_, _*_}
 use native.Mathlib.Omega.{arith}
 use lib.ListN.{getD, set}
 use lib.Seq.{set-getD}
 use lib.Dec.{eqb, leb}
 use borrow.Author.Tests.{eq-eqb}
-use Rattle.quantities.specs.declared.time.Time.{Time}
-use Rattle.quantities.specs.declared.time.OptionTime.{OptionTime}
-use Rattle.quantities.specs.declared.time.OptionTime.the-variants as Option
 use Rattle.quantities.specs.Units.{spanOf, rateOf, amountOf}
 use Rattle.meters.specs.declared.meter.AverageFlowMeter.{AverageFlowMeter}
 use Rattle.meters.specs.declared.meter.Metered.{Metered}
 use Rattle.meters.specs.Meter.{switchedOf}
 use Rattle.components.specs.declared.packet.Packet.{Packet}
-use Rattle.components.specs.declared.packet.Transit.{Transit}
 use Rattle.components.specs.declared.link.Line.{Line}
 use Rattle.components.specs.declared.link.Arrival.{Arrival}
 use Rattle.components.specs.declared.link.Left.{Left}
@@ -37,19 +32,16 @@ use Rattle.components.specs.declared.lossy.Sent.{Sent}
 use Rattle.components.specs.declared.lossy.Heard.{Heard}
 use Rattle.components.specs.declared.lossy.Heard.the-variants as Heard
 use Rattle.components.specs.declared.lossy.Returned.{Returned}
-use Rattle.components.specs.declared.tick_queue.Queued.{Queued}
 use Rattle.components.specs.declared.tick_queue.Picked.{Picked}
 use Rattle.components.specs.Link.{admits, admitted, receiveOf, tryDeliver, tryTransmit}
-use Rattle.components.specs.Sender.{senderNext, returnedOf, timerDue, tickTimer, tickSend}
+use Rattle.components.specs.Sender.{returnedOf, timerDue, tickTimer, tickSend}
 use Rattle.components.specs.Queue.{noQueued, pickOf}
-use Rattle.remy.specs.declared.simulation.Head.{Head}
 use Rattle.remy.specs.declared.simulation.Simulation.{Simulation}
-use Rattle.remy.specs.declared.simulation.TickRecord.{TickRecord}
 use Rattle.remy.specs.declared.simulation.Mark.the-variants as Mark
 use Rattle.remy.specs.declared.simulation.Name.the-variants as Name
 use Rattle.remy.specs.State.{link, sender, toggler, noPacket, noTransit, noSender, noToggler, noMeter, senderAt, togglerAt, meterAt, frontOf, firstOf, withLine, withOnLine, withSender, withToggler}
-use Rattle.remy.specs.Queue.{ownTime, requeue, headOf, removed, picked}
-use Rattle.remy.specs.Tick.{Acted, named, recordAt, arriveWith, arrives, timerWith, sendWith, senderWith, senderActs, togglerWith, togglerActs, switches, leftRecord, leftMessages, begunName, putOnLine, marked, heardMark, heardMeter, returnWith, linkWith, linkActs, actsOf, returns, Outcome, moves, stops, deliver, deliverAll, pickAgain, outcomeWith, outcomeOf}
+use Rattle.remy.specs.Queue.{ownTime, requeue, headOf, picked}
+use Rattle.remy.specs.Tick.{Acted, named, recordAt, arriveWith, arrives, timerWith, sendWith, senderWith, senderActs, togglerWith, togglerActs, switches, leftRecord, leftMessages, begunName, putOnLine, heardMark, returnWith, linkWith, linkActs, actsOf, moves, stops, deliver, deliverAll, pickAgain, outcomeWith, outcomeOf}
 use Rattle.turns.proofs.Picks.{picks}
 use Rattle.turns.specs.declared.Hearing.{Hearing}
 use Rattle.turns.specs.declared.LinkActed.{LinkActed}
@@ -57,7 +49,7 @@ use Rattle.turns.specs.declared.SenderActed.{SenderActed}
 use Rattle.turns.specs.declared.Arriving.{Arriving}
 use Rattle.turns.specs.declared.Sending.{Sending}
 use Rattle.turns.specs.declared.Sending.the-variants as Sending
-use Rattle.turns.specs.Turns.{ownerOf, linkActed, onLineAt, heardWith, heardBy, linkNote, linkSlot, senderSlot, placeAfterPick, togglerSlot, togglerNote, switchedTo, senderActed, timerTook, sendTook, senderTook, arrivedWith, arrivedAt, waitingAt, senderNote}
+use Rattle.turns.specs.Turns.{linkActed, onLineAt, heardWith, heardBy, linkNote, linkSlot, senderSlot, placeAfterPick, togglerSlot, togglerNote, switchedTo, senderActed, timerTook, sendTook, senderTook, arrivedWith, arrivedAt, waitingAt, senderNote}
 
 -- ---- the pick, as it is stored
 

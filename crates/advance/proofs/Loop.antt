@@ -1,10 +1,9 @@
 -- What each arm of the loop knows and stores: the turn, what is in range, and the state as it is stored. One variable and one equation for each call. Assumes nothing.
 use mathlib.Core.Path.{_≡_, refl, sym, ap, subst, _∙_}
-use mathlib.Core.Bool.{Bool, true, false, _&&_, cond}
-use mathlib.Core.List.{List, [], _∷_}
-use Prim.Native.Nat.{ℕ, _+_, _*_, _-_, _%_, _≤_, _<_, _^_}
+use mathlib.Core.Bool.{Bool, true, false, cond}
+use Prim.Native.Nat.{ℕ, _+_, _*_, _-_, _<_}
 use native.Mathlib.Omega.{arith}
-use lib.ListN.{length, getD, set, length-set}
+use lib.ListN.{length, getD, set}
 use lib.Dec.{eqb, ltb, leb}
 use borrow.Author.Tests.{ltb-true}
 use Rattle.quantities.specs.declared.time.Time.{Time}
@@ -18,17 +17,15 @@ use Rattle.components.specs.declared.packet.Packet.{Packet}
 use Rattle.components.specs.declared.packet.Transit.{Transit}
 use Rattle.components.specs.declared.link.Limit.{Limit}
 use Rattle.components.specs.declared.link.Line.{Line}
-use Rattle.components.specs.declared.link.Left.{Left}
-use Rattle.components.specs.declared.link.Left.the-variants as Left
 use Rattle.components.specs.declared.link.Arrival.{Arrival}
 use Rattle.components.specs.declared.link.Transmitted.{Transmitted}
 use Rattle.components.specs.declared.lossy.LossySender.{LossySender}
 use Rattle.components.specs.declared.toggler.Toggled.{Toggled}
 use Rattle.components.specs.declared.tick_queue.Queued.{Queued}
 use Rattle.components.specs.declared.tick_queue.Picked.{Picked}
-use Rattle.components.specs.Ring.{places, placeAfter}
+use Rattle.components.specs.Ring.{places}
 use Rattle.components.specs.NewTime.{newTime}
-use Rattle.components.specs.Link.{admits, admitted, receiveOf, isFree, startWith, notStarted, startedLine, tryDeliver, tryTransmit}
+use Rattle.components.specs.Link.{admits, admitted, receiveOf, isFree, tryDeliver, tryTransmit}
 use Rattle.components.specs.Toggler.{toggleOf}
 use Rattle.components.specs.Queue.{noQueued, pickOf}
 use Rattle.remy.specs.declared.simulation.Head.{Head}
@@ -37,7 +34,7 @@ use Rattle.remy.specs.declared.simulation.TickRecord.{TickRecord}
 use Rattle.remy.specs.State.{Role, link, sender, toggler, noPacket, noTransit, noSender, noToggler, senderAt, togglerAt, meterAt, frontOf, firstOf}
 use Rattle.remy.specs.Queue.{headOf}
 use Rattle.remy.specs.Fit.{fit}
-use Rattle.remy.specs.Tick.{emptyRecord, Outcome, moves, stops, outcomeOf, unmoved, ticked, tickOf}
+use Rattle.remy.specs.Tick.{moves, outcomeOf, unmoved, ticked, tickOf}
 use Rattle.remy.proofs.Steps.{cond-elim}
 use Rattle.turns.specs.declared.Now.{Now}
 use Rattle.turns.specs.declared.Now.the-variants as Now
@@ -47,10 +44,8 @@ use Rattle.turns.specs.declared.Sending.{Sending}
 use Rattle.turns.specs.declared.Sending.the-variants as Sending
 use Rattle.turns.specs.declared.SenderActed.{SenderActed}
 use Rattle.turns.specs.declared.Arriving.{Arriving}
-use Rattle.turns.specs.Turns.{nowOf, ownerOf, linkActed, onLineAt, heardBy, linkNote, linkSlot, senderSlot, placeAfterPick, togglerSlot, togglerNote, switchedTo, senderActed, arrivedWith, arrivedAt, waitingAt, senderNote}
-use Rattle.turns.proofs.InRange.{Ringed, on-line-range}
-use Rattle.advance.specs.declared.Advanced.{Advanced}
-use Rattle.advance.specs.Advance.{advanceOf}
+use Rattle.turns.specs.Turns.{nowOf, ownerOf, linkActed, onLineAt, heardBy, linkNote, linkSlot, senderSlot, placeAfterPick, togglerSlot, togglerNote, switchedTo, senderActed, arrivedAt, waitingAt, senderNote}
+use Rattle.turns.proofs.InRange.{on-line-range}
 use Rattle.advance.proofs.Arms.{link-state, sender-state, toggler-state, link-moves, sender-moves, toggler-moves}
 use Rattle.advance.proofs.Ticks.{TickAs, now-tick, InPlace, in-place, own-packet}
 

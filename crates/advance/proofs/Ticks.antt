@@ -1,15 +1,13 @@
 -- The loop of ticks: whose turn it is, what is in range then, and the equation that the loop keeps. Assumes nothing.
-use mathlib.Core.Path.{_≡_, refl, sym, ap, ap₂, subst, _∙_}
-use mathlib.Core.Bool.{Bool, true, false, not, _&&_, cond, true≢false}
+use mathlib.Core.Path.{_≡_, refl, sym, ap, subst, _∙_}
+use mathlib.Core.Bool.{Bool, true, false, _&&_, cond, true≢false}
 use mathlib.Core.List.{List, [], _∷_}
-use Prim.Native.Nat.{ℕ, zero, suc, _+_, _*_, _-_, _≤_, _<_, _^_}
+use Prim.Native.Nat.{ℕ, suc, _+_, _*_, _-_, _≤_, _<_, _^_}
 use native.Mathlib.Omega.{arith}
-use native.Mathlib.Nat.{add-zero, zero-add}
-use lib.ListN.{length, getD, set, length-set}
-use lib.Dec.{eqb, ltb, leb}
+use lib.ListN.{length, set, length-set}
+use lib.Dec.{ltb, leb}
 use lib.Ieee.{lt, eq}
 use borrow.Author.Tests.{leb-true, ltb-true, eqb-true, lt-ltb}
-use Rattle.quantities.specs.declared.time.Time.{Time}
 use Rattle.quantities.specs.Doubles.{power}
 use Rattle.rand.specs.Draws.{unitOf}
 use Rattle.components.specs.declared.packet.Packet.{Packet}
@@ -27,12 +25,10 @@ use Rattle.remy.specs.declared.simulation.Next.the-variants as Next
 use Rattle.remy.specs.declared.simulation.Simulation.{Simulation}
 use Rattle.remy.specs.declared.simulation.TickRecord.{TickRecord}
 use Rattle.remy.specs.declared.simulation.Ticked.{Ticked}
-use Rattle.remy.specs.declared.simulation.Ran.{Ran}
-use Rattle.remy.specs.State.{Role, link, sender, toggler, nobody, roleOf, noPacket, frontOf, firstOf, waitingItems, totalBits, packetBits}
+use Rattle.remy.specs.State.{Role, link, sender, toggler, roleOf, noPacket, frontOf, firstOf, waitingItems, totalBits}
 use Rattle.remy.specs.Fit.{ringsFit, bitsFit, fit}
 use Rattle.remy.specs.Tick.{emptyRecord, Outcome, moves, stops, outcomeOf, actsOf, unmoved, ticked, tickNext, tickOf}
-use Rattle.remy.specs.Run.{oneMore, runOf}
-use Rattle.remy.proofs.Facts.{both-l, both-r, FitState, fit-state}
+use Rattle.remy.proofs.Facts.{both-l, both-r, fit-state}
 use Rattle.remy.proofs.Networks.{few-senders, few-bits}
 use Rattle.remy.proofs.Front.{accepted, front-sender}
 use Rattle.remy.proofs.Fresh.{role-elim}

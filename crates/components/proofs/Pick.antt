@@ -1,7 +1,7 @@
 -- One turn of the pick over the queue; and what the pick picks. Assumes nothing.
-use mathlib.Core.Path.{_≡_, refl, sym, ap, _∙_}
+use mathlib.Core.Path.{_≡_, sym, ap, _∙_}
 use mathlib.Core.Bool.{true, false}
-use mathlib.Core.List.{List, [], _∷_}
+use mathlib.Core.List.{List}
 use Prim.Native.Nat.{ℕ, _+_, _≤_, _<_}
 use native.Mathlib.Numerals.{add-one}
 use native.Mathlib.Omega.{arith}
@@ -10,7 +10,7 @@ use lib.Seq.{drop-cons, drop-length}
 use Rattle.quantities.specs.declared.time.OptionTime.{OptionTime}
 use Rattle.components.specs.declared.tick_queue.Queued.{Queued}
 use Rattle.components.specs.declared.tick_queue.Picked.{Picked}
-use Rattle.components.specs.Queue.{noQueued, sooner, better, pickFrom, pickOf}
+use Rattle.components.specs.Queue.{noQueued, sooner, better, pickFrom}
 
 module _ (queue : List Queued) (time : OptionTime) (part i : ℕ) (h : i < length queue) where
   turn : pickFrom (drop (i + 1) queue) (i + 1) (better (record { time = time; part = part }) (getD queue i noQueued .time) i)

@@ -1,7 +1,7 @@
 -- Document 01, "Link", and rows 12 and 13 of "Stops". Definitions only. A line's own values (limit, bits, loss, delay, rate) are arguments, so that they hold for any line.
 use Prim.Native.Nat.{ℕ, _+_, _-_}
 use mathlib.Core.Bool.{Bool, true, false, _&&_, cond}
-use lib.Dec.{leb, ltb, eqb}
+use lib.Dec.{leb, eqb}
 use lib.Ieee.{Float, lt, le, eq}
 use Rattle.quantities.specs.declared.time.Time.{Time}
 use Rattle.quantities.specs.declared.time.OptionTime.{OptionTime}

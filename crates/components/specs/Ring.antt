@@ -1,7 +1,7 @@
 -- A ring of 512 places: a start and a count over an array of slots. Definitions only.
 use mathlib.Core.List.{List, [], _∷_}
 use Prim.Native.Nat.{ℕ, zero, suc, _+_, _-_, _%_}
-use lib.ListN.{getD, set}
+use lib.ListN.{getD}
 use Rattle.components.specs.declared.ring.Ring.{Ring}
 
 -- how many places a ring has

@@ -1,6 +1,6 @@
 -- Document 01, "Sender", and row 11 of "Stops". Definitions only.
 use Prim.Native.Nat.{ℕ, _+_, _/_, min, max}
-use mathlib.Core.Bool.{Bool, true, false, cond}
+use mathlib.Core.Bool.{Bool, false, cond}
 use lib.Dec.{leb, ltb, eqb}
 use lib.Ieee.{Float, lt, eq}
 use Rattle.quantities.specs.declared.time.Time.{Time}

@@ -1,6 +1,6 @@
 ghost use mathlib.Core.Path.{_≡_};
 ghost use Prim.Native.Nat.{_+_, _/_, min, max};
-ghost use Rattle.components.specs.Sender.{firstWindow, enabledOf, disabledOf, maySend, nextSend, senderNext, timerDue, windowSent, windowCounted, timerIn, timerSent, tickTimer, tickSend, returnedOf};
+ghost use Rattle.components.specs.Sender.{firstWindow, enabledOf, disabledOf, maySend, senderNext, timerDue, windowSent, windowCounted, timerIn, timerSent, tickTimer, tickSend, returnedOf};
 use crate::new_time::NewTime;
 use crate::new_time::new_time;
 use crate::packet::Packet;

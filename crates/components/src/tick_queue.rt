@@ -1,5 +1,4 @@
 ghost use mathlib.Core.Path.{_≡_};
-ghost use mathlib.Core.Bool.{cond};
 ghost use Rattle.components.specs.Queue.{sooner, pickOf};
 use quantities::OptionTime;
 use quantities::Time;

@@ -1,5 +1,5 @@
 -- What the fit test and the test of the due times say of a steady state. Assumes nothing.
-use mathlib.Core.Path.{_≡_, refl, sym, ap, _∙_}
+use mathlib.Core.Path.{_≡_, sym, _∙_}
 use mathlib.Core.Bool.{Bool, true, false, not, _&&_}
 use Prim.Native.Nat.{_≤_, _<_}
 use borrow.Author.Tests.{not-true, not-false, leb-true, ltb-true}
@@ -9,7 +9,7 @@ use Rattle.quantities.specs.Units.{spanOf, after}
 use Rattle.components.specs.Ring.{places}
 use Rattle.remy.specs.declared.simulation.Simulation.{Simulation}
 use Rattle.remy.specs.Fit.{ringsFit, fit}
-use Rattle.remy.proofs.Facts.{both-l, both-r, FitState, fit-state}
+use Rattle.remy.proofs.Facts.{both-l, both-r, fit-state}
 use Rattle.steady.specs.Steady.{steady}
 use Rattle.fitness.specs.Tests.{soonTest}
 

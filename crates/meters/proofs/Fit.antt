@@ -1,14 +1,12 @@
 -- What the tests on a meter say where they pass. Assumes nothing.
 use mathlib.Core.Path.{_≡_, sym, subst}
-use mathlib.Core.Bool.{Bool, true, _&&_}
-use Prim.Native.Nat.{ℕ, _*_, _≤_}
+use mathlib.Core.Bool.{true, _&&_}
+use Prim.Native.Nat.{_*_, _≤_}
 use lib.Dec.{T, leb, leb→le}
 use lib.Ieee.{le}
 use lib.Ieee.Bits.{is-true}
 use lib.Ieee.Fits.{and-l, and-r}
 use Rattle.quantities.specs.declared.time.Time.{Time}
-use Rattle.quantities.specs.declared.time.OptionTime.{OptionTime}
-use Rattle.quantities.specs.declared.time_span.TimeSpan.{TimeSpan}
 use Rattle.quantities.specs.Doubles.{zeroF, power, inRange}
 use Rattle.meters.specs.declared.meter.AverageFlowMeter.{AverageFlowMeter}
 use Rattle.meters.specs.Meter.{startFit, totalFit, sumFit, meterFit, notBefore, ready}

@@ -1,22 +1,21 @@
 -- The aggregator's fold over a list of flow records gives the mean of the list. Assumes nothing.
-use mathlib.Core.Path.{_≡_, refl, sym, ap, ap₂, _∙_}
+use mathlib.Core.Path.{_≡_, refl, ap, ap₂, _∙_}
 use mathlib.Core.Bool.{Bool, true, false, _&&_, cond, and-true, and-false, and-assoc}
 use mathlib.Core.List.{List, [], _∷_}
-use Prim.Native.Nat.{ℕ, zero, suc, _+_, _≤_, _<_}
+use Prim.Native.Nat.{ℕ, suc, _+_, _≤_, _<_}
 use native.Mathlib.Nat.{zero-add, add-zero}
 use native.Mathlib.Omega.{arith}
-use borrow.Author.Tests.{lt-ltb, le-ltb, le-leb, lt-leb, ne-eqb, ltb-true, ltb-false}
+use borrow.Author.Tests.{le-leb, lt-leb, ne-eqb, ltb-true, ltb-false}
 use lib.ListN.{length}
-use lib.Dec.{T, leb, ltb, eqb}
+use lib.Dec.{leb, ltb, eqb}
 use lib.Ieee.{Float, binary64, add}
-use Rattle.quantities.specs.declared.time_span.TimeSpan.{TimeSpan}
 use Rattle.quantities.specs.Doubles.{zeroF}
 use Rattle.quantities.specs.Units.{spanOf, rateOf, rateOver}
 use Rattle.meters.specs.declared.flow.Rtt.{Rtt}
 use Rattle.meters.specs.declared.flow.Rtt.the-variants.{NoPacketsAcked, Known}
 use Rattle.meters.specs.declared.flow.FlowProperties.{FlowProperties}
 use Rattle.meters.specs.declared.average.FlowSum.{FlowSum}
-use Rattle.meters.specs.Sums.{summedOf, averageRtt, FlowAnswer, refusal}
+use Rattle.meters.specs.Sums.{summedOf, averageRtt, refusal}
 use Rattle.meters.specs.Average.{memberFit, membersFit, rates, withRtt, rtts, sumFrom, sumOf, averageOf, startOf, refusedSum, rttCount, rttSum, addedOf, meanOf}
 
 -- the aggregator over a list

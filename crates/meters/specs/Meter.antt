@@ -1,8 +1,8 @@
 -- Document 01, "Meter" and the rows 16 and 18 of "Stops": the average flow meter. Definitions only.
-use Prim.Native.Nat.{ℕ, _+_, _*_, _^_}
+use Prim.Native.Nat.{ℕ, _+_, _*_}
 use mathlib.Core.Bool.{Bool, true, false, not, _&&_, Bool·beq, cond}
 use lib.Dec.{leb, ltb}
-use lib.Ieee.{Float, binary64, mul, le, eq}
+use lib.Ieee.{binary64, mul, le, eq}
 use Rattle.quantities.specs.declared.time.Time.{Time}
 use Rattle.quantities.specs.declared.time.OptionTime.{OptionTime}
 use Rattle.quantities.specs.declared.time.OptionTime.the-variants.{None, Some}
@@ -10,7 +10,6 @@ use Rattle.quantities.specs.declared.time_span.TimeSpan.{TimeSpan}
 use Rattle.quantities.specs.declared.information.Information.{Information}
 use Rattle.quantities.specs.Doubles.{zeroF, power, largest, inRange}
 use Rattle.quantities.specs.Units.{spanOf, amountOf, asDouble, since, spanSum, amountOverSpan}
-use Rattle.meters.specs.declared.flow.FlowProperties.{FlowProperties}
 use Rattle.meters.specs.declared.meter.AverageFlowMeter.{AverageFlowMeter}
 use Rattle.meters.specs.declared.meter.Metered.{Metered}
 use Rattle.meters.specs.declared.meter.Reception.{Reception}

@@ -3,7 +3,7 @@
 use Prim.Native.Nat.{ℕ}
 use mathlib.Core.Bool.{Bool, true, false, _&&_, cond}
 use lib.IntN.{pos}
-use lib.Ieee.{Float, nan, inf, fin, neg, lt, le}
+use lib.Ieee.{Float, nan, inf, fin, lt, le}
 
 -- 0
 abbrev pub zeroF : Float

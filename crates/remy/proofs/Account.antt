@@ -1,15 +1,14 @@
 -- Demand 3: the account holds after every list of calls from a fresh simulation. Assumes nothing.
 use mathlib.Core.Path.{_≡_, refl, sym, ap, subst, _∙_}
 use mathlib.Core.Logic.{_⊎_, inl, inr, ⊎-elim}
-use mathlib.Core.Bool.{Bool, true, false, _&&_, _||_, cond}
+use mathlib.Core.Bool.{Bool, true, false, _||_, cond}
 use mathlib.Core.List.{List, [], _∷_, _++_, map, map-map, append-assoc, append-nil}
 use Prim.Native.Nat.{ℕ, _+_}
 use native.Mathlib.Omega.{arith}
 use borrow.Author.Tests.{eqb-true}
-use lib.Dec.{T, eqb}
+use lib.Dec.{eqb}
 use lib.Ieee.{lt}
 use Rattle.quantities.specs.Doubles.{power}
-use Rattle.components.specs.declared.packet.Packet.{Packet}
 use Rattle.remy.specs.declared.network.RemyNetwork.{RemyNetwork}
 use Rattle.remy.specs.declared.simulation.Next.{Next}
 use Rattle.remy.specs.declared.simulation.Next.the-variants as Next
@@ -17,10 +16,10 @@ use Rattle.remy.specs.declared.simulation.Simulation.{Simulation}
 use Rattle.remy.specs.declared.simulation.Mark.{Mark}
 use Rattle.remy.specs.declared.simulation.TickRecord.{TickRecord}
 use Rattle.remy.specs.declared.simulation.Ticked.{Ticked}
-use Rattle.remy.specs.State.{roleOf, senderAt, waitingItems, onLineItems, onLinePackets}
+use Rattle.remy.specs.State.{roleOf, waitingItems, onLineItems, onLinePackets}
 use Rattle.remy.specs.Fit.{fit}
 use Rattle.remy.specs.Tick.{Outcome, moves, stops, outcomeOf, unmoved, ticked, tickNext, tickOf}
-use Rattle.remy.specs.History.{Call, tick, called, after, noted, history, Fresh, PacketId, idOf, Entry, ids, entries, letterOf, isS, isF, isL, isC, isO, isI, sends, admissions, starts, leaves, droppedFull, lost, counted, old, ignored}
+use Rattle.remy.specs.History.{Call, tick, called, after, noted, history, PacketId, idOf, ids, entries, letterOf, isS, isF, isL, isC, isO, isI, sends, admissions, starts, leaves, droppedFull, lost, counted, old, ignored}
 use Rattle.remy.specs.Account.{total, ofSender, isPacket, everywhere, Account, Demand3}
 use Rattle.remy.proofs.Lists.{map-append, entries-append, starts-append, total-append, entries-either}
 use Rattle.remy.proofs.Lines.{line-account}

@@ -1,28 +1,24 @@
 -- In a fit state: what is known of the first packet on the line, and of its sender's meter. Assumes nothing.
 use mathlib.Core.Path.{_≡_, refl, sym, ap, subst, _∙_}
-use mathlib.Core.Bool.{Bool, true, false, not, _&&_, _||_, cond}
-use mathlib.Core.List.{List, [], _∷_, map}
+use mathlib.Core.Bool.{Bool, true, false, not, _&&_}
+use mathlib.Core.List.{_∷_, map}
 use Prim.Native.Nat.{ℕ, _+_, _*_, _≤_, _<_}
 use native.Mathlib.Omega.{arith}
 use borrow.Author.Tests.{eq-eqb, leb-true, ltb-true, eqb-true}
 use lib.Dec.{T, leb, ltb, eqb}
-use lib.ListN.{getD}
-use lib.Ieee.{lt, le, isNan}
-use lib.Ieee.Bits.{is-true}
-use lib.Dec.{not-T}
+use lib.Ieee.{lt, le}
 use Rattle.quantities.specs.declared.time.Time.{Time}
 use Rattle.quantities.specs.declared.time.OptionTime.{OptionTime}
-use Rattle.quantities.specs.declared.time.OptionTime.the-variants.{None, Some}
+use Rattle.quantities.specs.declared.time.OptionTime.the-variants.{Some}
 use Rattle.quantities.specs.Doubles.{zeroF, power, inRange}
 use Rattle.quantities.proofs.Order.{le-known-r, not-lt→le}
 use Rattle.meters.specs.Meter.{totalFit, sumFit}
 use Rattle.components.specs.declared.packet.Packet.{Packet}
-use Rattle.components.specs.declared.packet.Transit.{Transit}
 use Rattle.components.specs.Ring.{items, popped}
 use Rattle.components.proofs.Items.{Sound, items-pop}
 use Rattle.remy.specs.declared.simulation.Simulation.{Simulation}
 use Rattle.remy.specs.Network.{between, networkStop}
-use Rattle.remy.specs.State.{noTransit, senderAt, meterAt, frontOf, waitingItems, onLineItems, onLinePackets}
+use Rattle.remy.specs.State.{noTransit, senderAt, meterAt, frontOf, waitingItems, onLinePackets}
 use Rattle.remy.specs.Fit.{every, eachSender, packetFit, packetsFit, clockFit, sinceStart, startedFit, meterStartFit, pastFit, totalsFit, sumsFit, countOf, recordsFit, ackFit, countsFit, meterBitsFit, networkFit}
 use Rattle.remy.proofs.Facts.{both-l, both-r, upTo-at, every-first, FitState}
 use Rattle.remy.proofs.Networks.{FitNetwork, fit-network, few-bits}

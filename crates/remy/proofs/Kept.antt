@@ -1,24 +1,20 @@
 -- What a simulation keeps between the steps of a tick, and that each kind of store keeps it. It carries demand 3. Assumes nothing.
 use mathlib.Core.Path.{_≡_, refl, sym, ap, subst, _∙_}
-use mathlib.Core.Logic.{inl, inr}
 use mathlib.Core.Bool.{Bool, true, false, _&&_, cond}
-use mathlib.Core.List.{List, [], _∷_, _++_, map, append-nil}
+use mathlib.Core.List.{List, [], _∷_, _++_}
 use Prim.Native.Nat.{ℕ, zero, suc, _+_, _≤_, _<_}
 use native.Mathlib.Nat.{add-zero}
 use native.Mathlib.Decide.{ℕ-discrete}
 use native.Mathlib.Omega.{arith}
 use borrow.Author.Tests.{eq-eqb, ne-eqb, le-leb, lt-leb, lt-ltb, leb-true, leb-false}
 use lib.Arith.{lt-of-le-ne}
-use lib.Dec.{T, leb, ltb, eqb}
+use lib.Dec.{leb, ltb, eqb}
 use lib.ListN.{length, getD, set, length-set}
 use lib.Seq.{getD-set-same, getD-set-other}
 use Rattle.quantities.specs.declared.time.Time.{Time}
 use Rattle.quantities.specs.declared.time.OptionTime.{OptionTime}
 use Rattle.quantities.specs.Units.{spanOf, rateOf, amountOverRate}
 use Rattle.meters.specs.declared.meter.AverageFlowMeter.{AverageFlowMeter}
-use Rattle.components.specs.declared.packet.Packet.{Packet}
-use Rattle.components.specs.declared.packet.Transit.{Transit}
-use Rattle.components.specs.declared.link.Line.{Line}
 use Rattle.components.specs.declared.lossy.SenderState.{SenderState}
 use Rattle.components.specs.declared.lossy.SenderState.the-variants as State
 use Rattle.components.specs.declared.lossy.LossySender.{LossySender}
@@ -27,7 +23,7 @@ use Rattle.components.specs.Queue.{noQueued}
 use Rattle.remy.specs.declared.network.RemyNetwork.{RemyNetwork}
 use Rattle.remy.specs.declared.simulation.Simulation.{Simulation}
 use Rattle.remy.specs.Network.{between}
-use Rattle.remy.specs.State.{noTransit, noSender, noToggler, noMeter, senderAt, togglerAt, meterAt, queuedAt, senderBits, packetBits, withLine, withWaiting, withOnLine, withSender, withToggler, withMeter, withQueued}
+use Rattle.remy.specs.State.{noTransit, noSender, noToggler, noMeter, senderAt, togglerAt, meterAt, queuedAt, senderBits, packetBits, withSender, withToggler, withMeter, withQueued}
 use Rattle.remy.specs.History.{PacketId, Entry, ids}
 use Rattle.remy.specs.Account.{total, ofSender, isPacket}
 use Rattle.remy.proofs.Lists.{map-append, total-append}

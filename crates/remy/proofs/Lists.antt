@@ -1,12 +1,11 @@
 -- Lists of entries, and sums of weights over lists of packets: both go through an append. Assumes nothing.
-use mathlib.Core.Path.{_≡_, refl, sym, ap, ap₂, _∙_}
-use mathlib.Core.Bool.{Bool, true, false, _||_, cond}
-use mathlib.Core.List.{List, [], _∷_, _++_, map, append-assoc}
+use mathlib.Core.Path.{_≡_, refl, sym, ap, _∙_}
+use mathlib.Core.Bool.{Bool, true, false, _||_}
+use mathlib.Core.List.{List, [], _∷_, _++_, map}
 use Prim.Native.Nat.{ℕ, zero, suc, _+_}
 use native.Mathlib.Nat.{zero-add, add-assoc}
 use native.Mathlib.Omega.{arith}
 use lib.ListN.{length, take}
-use lib.Seq.{take-at}
 use Rattle.quantities.specs.declared.time.Time.{Time}
 use Rattle.components.specs.declared.packet.Packet.{Packet}
 use Rattle.remy.specs.declared.simulation.Mark.{Mark}
@@ -14,7 +13,7 @@ use Rattle.remy.specs.declared.simulation.Name.{Name}
 use Rattle.remy.specs.declared.simulation.Name.the-variants as Name
 use Rattle.remy.specs.declared.simulation.TickRecord.{TickRecord}
 use Rattle.remy.specs.State.{totalBits}
-use Rattle.remy.specs.History.{PacketId, Entry, ids, times, entryIf, entries, starts}
+use Rattle.remy.specs.History.{PacketId, Entry, ids, entryIf, entries, starts}
 use Rattle.remy.specs.Account.{total}
 
 -- ---- map, length and take

@@ -1,18 +1,17 @@
 -- A tick that moves keeps what a simulation keeps, with the lists grown by its record. Assumes nothing.
 use mathlib.Core.Path.{_≡_, refl, sym, ap, subst, _∙_}
-use mathlib.Core.Bool.{Bool, true, false, not, _&&_, cond}
+use mathlib.Core.Bool.{true, false, cond}
 use mathlib.Core.List.{List, [], _∷_, _++_, append-nil}
-use Prim.Native.Nat.{ℕ, zero, suc, _+_, _≤_, _<_}
-use borrow.Author.Tests.{eqb-true, leb-false}
-use lib.Dec.{T, leb, eqb}
-use lib.ListN.{getD, set}
+use Prim.Native.Nat.{ℕ, _+_, _≤_, _<_}
+use borrow.Author.Tests.{eqb-true}
+use lib.Dec.{leb, eqb}
+use lib.ListN.{set}
 use lib.Ieee.{lt}
 use Rattle.quantities.specs.declared.time.Time.{Time}
 use Rattle.quantities.specs.declared.time.OptionTime.the-variants.{None}
-use Rattle.quantities.specs.Doubles.{zeroF, power}
-use Rattle.quantities.specs.Units.{spanOf, rateOf, amountOf, amountOverRate, since}
+use Rattle.quantities.specs.Doubles.{power}
+use Rattle.quantities.specs.Units.{spanOf, rateOf, amountOverRate, since}
 use Rattle.quantities.specs.Units.{after as spanAfter}
-use Rattle.quantities.proofs.Order.{lt→le}
 use Rattle.rand.specs.Draws.{unitOf}
 use Rattle.meters.specs.declared.meter.Metered.{Metered}
 use Rattle.meters.specs.Meter.{recordedOf}
@@ -30,7 +29,7 @@ use Rattle.components.specs.declared.lossy.SenderState.the-variants as State
 use Rattle.components.specs.declared.lossy.Heard.the-variants as Heard
 use Rattle.components.specs.declared.lossy.Returned.{Returned}
 use Rattle.components.specs.Ring.{places, placeAfter}
-use Rattle.components.specs.NewTime.{TimeAnswer, newTime}
+use Rattle.components.specs.NewTime.{newTime}
 use Rattle.components.specs.Link.{isDue, departed, tryDeliver, isFree, startedLine, notStarted, startWith, tryTransmit}
 use Rattle.components.specs.Sender.{withState, acked, returnTo, returnedOf}
 use Rattle.components.proofs.Limits.{due-count}
@@ -39,15 +38,14 @@ use Rattle.remy.specs.declared.simulation.Simulation.{Simulation}
 use Rattle.remy.specs.declared.simulation.Mark.the-variants as Mark
 use Rattle.remy.specs.declared.simulation.Name.the-variants as Name
 use Rattle.remy.specs.declared.simulation.TickRecord.{TickRecord}
-use Rattle.remy.specs.State.{Role, link, sender, toggler, nobody, noSender, senderAt, meterAt, firstOf, frontOf, packetBits, withLine, withOnLine, withSender, withMeter}
+use Rattle.remy.specs.State.{Role, link, sender, senderAt, meterAt, firstOf, frontOf, packetBits, withLine, withOnLine, withSender}
 use Rattle.remy.specs.Queue.{requeue, picked}
-use Rattle.remy.specs.Tick.{named, recordAt, marked, Message, arrives, returns, switches, Acted, stopped, linkWith, linkActs, actsOf, Outcome, moves, stops, heardMeter, returnWith, deliver, deliverAll, pickAgain, outcomeWith, outcomeOf}
+use Rattle.remy.specs.Tick.{named, recordAt, returns, stopped, linkWith, linkActs, actsOf, Outcome, moves, stops, returnWith, deliver, pickAgain, outcomeWith, outcomeOf}
 use Rattle.remy.specs.History.{PacketId, idOf, Entry, ids, entryIf, sends, admissions, starts, leaves, counted}
 use Rattle.remy.proofs.Lines.{entryAt}
-use Rattle.remy.proofs.Plain.{Plain, PlainIfAny}
 use Rattle.remy.proofs.Facts.{FitState}
 use Rattle.remy.proofs.Networks.{FitNetwork, few-senders, some-bits}
-use Rattle.remy.proofs.Taken.{MeterFacts, record-taken}
+use Rattle.remy.proofs.Taken.{record-taken}
 use Rattle.remy.proofs.Kept.{PlainTimer, Kept, kept-lists, keep-sender, count-meter}
 use Rattle.remy.proofs.Front.{accepted, meter-facts, front-sender, front-past, front-room}
 use Rattle.remy.proofs.Steps.{cond-elim, keep-requeue, keep-picked}

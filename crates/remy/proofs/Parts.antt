@@ -1,55 +1,49 @@
 -- Each store of a part keeps what a simulation keeps, with the lists grown by what the part did. Assumes nothing.
-use mathlib.Core.Path.{_≡_, refl, sym, ap, subst, _∙_}
-use mathlib.Core.Logic.{inl, inr}
-use mathlib.Core.Bool.{Bool, true, false, not, _&&_, Bool·beq, cond}
+use mathlib.Core.Path.{_≡_, refl, sym, subst}
+use mathlib.Core.Logic.{inl}
+use mathlib.Core.Bool.{Bool, true, false, not, _&&_, Bool·beq}
 use mathlib.Core.List.{List, [], _∷_, _++_}
-use Prim.Native.Nat.{ℕ, zero, suc, _+_, _≤_, _<_}
+use Prim.Native.Nat.{ℕ, zero, suc, _+_, _<_}
 use native.Mathlib.Omega.{arith}
 use borrow.Author.Tests.{leb-false, eqb-true, eqb-false}
-use lib.Dec.{T, leb, ltb, eqb}
-use lib.ListN.{getD, set}
+use lib.Dec.{T, leb, eqb}
+use lib.ListN.{set}
 use lib.IntN.{negsuc}
 use lib.Ieee.{Float, fin, lt, le, eq}
 use Rattle.quantities.specs.declared.time.Time.{Time}
 use Rattle.quantities.specs.declared.time.OptionTime.{OptionTime}
 use Rattle.quantities.specs.declared.time.OptionTime.the-variants.{None, Some}
 use Rattle.quantities.specs.declared.time_span.TimeSpan.{TimeSpan}
-use Rattle.quantities.specs.Doubles.{zeroF, power, inRange}
-use Rattle.quantities.specs.Units.{spanOf, rateOf, amountOf, amountOverRate, since}
+use Rattle.quantities.specs.Doubles.{zeroF, power}
+use Rattle.quantities.specs.Units.{spanOf, rateOf, amountOf, amountOverRate}
 use Rattle.quantities.specs.Units.{after as spanAfter}
-use Rattle.quantities.proofs.Order.{le-trans, lt→le}
+use Rattle.quantities.proofs.Order.{le-trans}
 use Rattle.rand.specs.declared.generator.Rng.{Rng}
 use Rattle.rand.specs.declared.distribution.ContinuousDistribution.{ContinuousDistribution}
-use Rattle.rand.specs.Draws.{PositiveDraw, drawOf, redraw, positiveOf}
+use Rattle.rand.specs.Draws.{drawOf, redraw}
 use Rattle.meters.specs.declared.meter.AverageFlowMeter.{AverageFlowMeter}
 use Rattle.meters.specs.declared.meter.Metered.{Metered}
-use Rattle.meters.specs.Meter.{ready, isOn, taken, unchanged, turned, switchedOf, recordedOf}
+use Rattle.meters.specs.Meter.{ready, isOn, taken, unchanged, turned, switchedOf}
 use Rattle.components.specs.declared.packet.Packet.{Packet}
-use Rattle.components.specs.declared.packet.Transit.{Transit}
 use Rattle.components.specs.declared.lossy.Policy.{Policy}
 use Rattle.components.specs.declared.lossy.Policy.the-variants.{Held, Grown, Timed}
 use Rattle.components.specs.declared.lossy.Enabled.{Enabled}
-use Rattle.components.specs.declared.lossy.SenderState.{SenderState}
-use Rattle.components.specs.declared.lossy.SenderState.the-variants as State
-use Rattle.components.specs.declared.lossy.LossySender.{LossySender}
 use Rattle.components.specs.declared.lossy.TimerSet.{TimerSet}
-use Rattle.components.specs.declared.lossy.TimerTicked.{TimerTicked}
 use Rattle.components.specs.Ring.{places, placeAfter}
-use Rattle.components.specs.NewTime.{TimeAnswer, timeFine, checkedTime, newTime}
+use Rattle.components.specs.NewTime.{timeFine, newTime}
 use Rattle.components.specs.Link.{admits, admitted, isDue, departed, isFree, startedLine}
-use Rattle.components.specs.Sender.{timerFrom, timerIn, timerSent, tickTimer, tickSend, acked, returnTo, returnedOf}
-use Rattle.components.specs.Toggler.{toggleWith, toggleOf}
+use Rattle.components.specs.Sender.{timerIn, timerSent, tickTimer}
 use Rattle.components.proofs.Limits.{due-count, free-count}
 use Rattle.remy.specs.declared.network.RemyNetwork.{RemyNetwork}
 use Rattle.remy.specs.declared.simulation.Simulation.{Simulation}
 use Rattle.remy.specs.Network.{windowFit, gapFit, policyFit}
-use Rattle.remy.specs.State.{noTransit, senderAt, togglerAt, meterAt, firstOf, frontOf, packetBits, withLine, withWaiting, withOnLine, withSender, withMeter}
-use Rattle.remy.specs.History.{PacketId, idOf, Entry}
+use Rattle.remy.specs.State.{noTransit, meterAt, firstOf, frontOf, packetBits, withLine, withWaiting, withOnLine, withMeter}
+use Rattle.remy.specs.History.{PacketId, Entry}
 use Rattle.remy.proofs.Lines.{entryAt, leave, start, arrive}
 use Rattle.remy.proofs.Plain.{Plain, PlainIfAny, plain-after, plain-same}
 use Rattle.remy.proofs.Facts.{both-l, both-r, range-low}
 use Rattle.remy.proofs.Networks.{FitNetwork, delay-from-zero, sending-from-zero}
-use Rattle.remy.proofs.Kept.{all-set, PlainTimer, Kept, keep-meter}
+use Rattle.remy.proofs.Kept.{all-set, Kept, keep-meter}
 use Rattle.remy.proofs.Steps.{cond-elim}
 
 -- ---- times that are taken

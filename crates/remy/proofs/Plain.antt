@@ -1,10 +1,9 @@
 -- Times that are doubles without a minus sign. A tick's times are such, so two that are equal as doubles are the same datum. Assumes nothing.
 use mathlib.Core.Path.{_≡_, refl, sym, ap, subst, _∙_}
 use mathlib.Core.Logic.{_⊎_, inl, inr}
-use mathlib.Core.Bool.{Bool, true, false, not, _&&_, _||_, Bool·beq, cond, true≢false, false≢true}
+use mathlib.Core.Bool.{Bool, true, false, cond, true≢false}
 use Prim.Native.Nat.{ℕ, zero, suc, _+_, _-_, _*_, _^_, zero-le}
 use native.Mathlib.Nat.{zero-mul, mul-one}
-use native.Mathlib.Omega.{arith}
 use borrow.Author.Tests.{le-ltb}
 use lib.IntN.{ℤ}
 use lib.Dec.{T, ltb, eqb, eqb→eq}
@@ -14,8 +13,8 @@ use Rattle.quantities.specs.declared.time.Time.{Time}
 use Rattle.quantities.specs.declared.time.OptionTime.{OptionTime}
 use Rattle.quantities.specs.declared.time.OptionTime.the-variants.{None, Some}
 use Rattle.quantities.specs.declared.time_span.TimeSpan.{TimeSpan}
-use Rattle.quantities.specs.Doubles.{zeroF, least, negative, later, earlier}
-use Rattle.quantities.specs.Units.{spanOf, timeOf, latestOf, earliestOf, earliestOptOf}
+use Rattle.quantities.specs.Doubles.{zeroF, least, negative}
+use Rattle.quantities.specs.Units.{timeOf, latestOf, earliestOptOf}
 use Rattle.quantities.specs.Units.{after as spanAfter}
 use Rattle.quantities.proofs.Order.{eq→same}
 

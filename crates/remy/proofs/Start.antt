@@ -1,26 +1,24 @@
 -- A fresh simulation keeps what every later one keeps, with nothing in the history. Assumes nothing.
 use mathlib.Core.Path.{_≡_, refl, sym, ap, subst, _∙_}
-use mathlib.Core.Logic.{inl, inr}
-use mathlib.Core.Bool.{Bool, true, false, _&&_, cond, and-false}
-use mathlib.Core.List.{List, [], _∷_}
-use Prim.Native.Nat.{ℕ, zero, suc, _+_, _≤_, _<_, zero-le}
+use mathlib.Core.Logic.{inr}
+use mathlib.Core.Bool.{false, and-false}
+use mathlib.Core.List.{[]}
+use Prim.Native.Nat.{ℕ, zero, suc, _+_, zero-le}
 use native.Mathlib.Omega.{arith}
 use borrow.Author.Tests.{eqb-true, eqb-false, lt-leb}
-use lib.Dec.{T, leb, ltb, eqb}
+use lib.Dec.{leb, ltb, eqb}
 use lib.ListN.{length, getD, set, replicate, length-set}
-use lib.Ieee.{binary64, lt, fits}
-use Rattle.quantities.specs.declared.time.Time.{Time}
+use lib.Ieee.{lt, fits}
 use Rattle.quantities.specs.declared.time.OptionTime.the-variants.{None}
-use Rattle.quantities.specs.Doubles.{zeroF, least}
-use Rattle.quantities.specs.Units.{spanOf, timeOf, rateOf, amountOverRate}
+use Rattle.quantities.specs.Doubles.{zeroF}
+use Rattle.quantities.specs.Units.{spanOf, timeOf}
 use Rattle.quantities.specs.Units.{after as spanAfter}
 use Rattle.quantities.proofs.Order.{lt→le}
 use Rattle.rand.specs.declared.generator.Rng.{Rng}
 use Rattle.rand.specs.declared.distribution.ContinuousDistribution.{ContinuousDistribution}
 use Rattle.rand.specs.Generator.{fromSeed, childOf}
-use Rattle.rand.specs.Draws.{PositiveDraw, positiveOf}
+use Rattle.rand.specs.Draws.{positiveOf}
 use Rattle.meters.specs.Meter.{newMeter}
-use Rattle.components.specs.declared.packet.Packet.{Packet}
 use Rattle.components.specs.declared.link.Limit.{Limit}
 use Rattle.components.specs.declared.link.Limit.the-variants as Limit
 use Rattle.components.specs.declared.lossy.LossySender.{LossySender}
@@ -28,18 +26,16 @@ use Rattle.components.specs.declared.toggler.Toggler.{Toggler}
 use Rattle.components.specs.declared.toggler.Toggled.{Toggled}
 use Rattle.components.specs.Queue.{queuePlaces, noQueued}
 use Rattle.components.specs.Toggler.{newToggler}
-use Rattle.components.proofs.Items.{Sound}
 use Rattle.remy.specs.declared.network.RemyNetwork.{RemyNetwork}
 use Rattle.remy.specs.declared.simulation.Simulation.{Simulation}
 use Rattle.remy.specs.declared.simulation.Built.{Built}
-use Rattle.remy.specs.Network.{between, networkStop}
-use Rattle.remy.specs.State.{roleOf, noSender, noToggler, noMeter, senderBits, packetBits, withQueue}
-use Rattle.remy.specs.Queue.{nextTimeOf, picked}
-use Rattle.remy.specs.Build.{newLine, newSender, zeroWords, blankPacket, blankTransit, blankToggler, Parts, noParts, populate, unqueued, ownTimes, queuedAll, notBuilt, buildFrom, buildOf}
-use Rattle.remy.specs.History.{Fresh, PacketId, Entry}
-use Rattle.remy.specs.Account.{Limited, Demand3}
+use Rattle.remy.specs.Network.{networkStop}
+use Rattle.remy.specs.State.{roleOf, noSender, noToggler, noMeter, withQueue}
+use Rattle.remy.specs.Queue.{picked}
+use Rattle.remy.specs.Build.{newSender, zeroWords, blankPacket, blankTransit, blankToggler, Parts, noParts, populate, unqueued, ownTimes, queuedAll, notBuilt, buildFrom, buildOf}
+use Rattle.remy.specs.History.{Fresh}
+use Rattle.remy.specs.Account.{Limited}
 use Rattle.remy.proofs.Plain.{Plain, PlainIfAny, plain-after, plain-nan}
-use Rattle.remy.proofs.Lines.{LineKept}
 use Rattle.remy.proofs.Kept.{all-set, PlainTimer, wasSent, Kept}
 use Rattle.remy.proofs.Steps.{cond-elim, own-plain, keep-picked}
 use Rattle.remy.proofs.Parts.{draw-positive}

@@ -1,17 +1,14 @@
 -- Each step of a tick keeps what a simulation keeps: the requeue and the pick here. Assumes nothing.
-use mathlib.Core.Path.{_≡_, refl, sym, ap, subst, _∙_}
+use mathlib.Core.Path.{_≡_, refl, subst}
 use mathlib.Core.Bool.{Bool, true, false, cond}
 use mathlib.Core.List.{List}
 use Prim.Native.Nat.{ℕ}
 use lib.Dec.{eqb}
-use lib.ListN.{getD, set}
-use lib.Ieee.{binary64, fits}
-use lib.Dec.{T}
+use lib.Ieee.{fits}
 use Rattle.quantities.specs.declared.time.Time.{Time}
 use Rattle.quantities.specs.declared.time.OptionTime.{OptionTime}
 use Rattle.quantities.specs.declared.time.OptionTime.the-variants.{None, Some}
-use Rattle.quantities.specs.Doubles.{largest}
-use Rattle.quantities.specs.Units.{timeOf, latestOf}
+use Rattle.quantities.specs.Units.{latestOf}
 use Rattle.components.specs.declared.link.Line.{Line}
 use Rattle.components.specs.declared.lossy.SenderState.{SenderState}
 use Rattle.components.specs.declared.lossy.SenderState.the-variants as State
@@ -21,10 +18,9 @@ use Rattle.components.specs.Sender.{maySend, nextSend, stateNext, senderNext}
 use Rattle.components.specs.Queue.{noQueued, pickOf}
 use Rattle.components.proofs.Least.{picked-there}
 use Rattle.remy.specs.declared.network.RemyNetwork.{RemyNetwork}
-use Rattle.remy.specs.declared.simulation.Head.{Head}
 use Rattle.remy.specs.declared.simulation.Simulation.{Simulation}
-use Rattle.remy.specs.State.{Role, link, sender, toggler, nobody, noTransit, senderAt, frontOf, queuedAt, withHead, withQueue}
-use Rattle.remy.specs.Queue.{endOfTime, ownTime, partOf, requeue, headOf, removed, pickWith, picked}
+use Rattle.remy.specs.State.{Role, link, sender, toggler, nobody, senderAt, frontOf, withHead, withQueue}
+use Rattle.remy.specs.Queue.{endOfTime, ownTime, partOf, requeue, headOf, removed, picked}
 use Rattle.remy.specs.History.{PacketId, Entry}
 use Rattle.remy.proofs.Plain.{Plain, PlainIfAny, PlainOrLeast, plain-latest, plain-earliest}
 use Rattle.remy.proofs.Kept.{all-set, PlainTimer, Kept, keep-queued}

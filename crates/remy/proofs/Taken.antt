@@ -1,27 +1,23 @@
 -- In a fit state whose clock is a double of at most 2^40, a meter takes every record and every switch of a tick: a tick never gives 16 to 18. Assumes nothing.
-use mathlib.Core.Path.{_≡_, refl, sym, ap, subst, _∙_}
-use mathlib.Core.Bool.{Bool, true, false, not, _&&_, _||_, Bool·beq, cond}
-use mathlib.Core.List.{List, [], _∷_}
-use Prim.Native.Nat.{ℕ, _+_, _*_, _≤_, _<_}
+use mathlib.Core.Path.{_≡_, refl}
+use mathlib.Core.Bool.{Bool, true, not, Bool·beq}
+use Prim.Native.Nat.{ℕ, _*_, _≤_, _<_}
 use native.Mathlib.Nat.{mul-comm, mul-le-mul-left}
 use native.Mathlib.Omega.{arith}
-use borrow.Author.Tests.{le-leb, lt-ltb, leb-true, eqb-true}
-use lib.Dec.{T, leb, eqb}
-use lib.Ieee.{Float, binary64, lt, le, isNan, fits}
+use borrow.Author.Tests.{le-leb, lt-ltb}
+use lib.Dec.{T}
+use lib.Ieee.{binary64, le, fits}
 use lib.Ieee.Bits.{is-true}
 use lib.Ieee.Scale.{finite}
 use Rattle.quantities.specs.declared.time.Time.{Time}
 use Rattle.quantities.specs.declared.time.OptionTime.{OptionTime}
 use Rattle.quantities.specs.declared.time.OptionTime.the-variants.{None, Some}
-use Rattle.quantities.specs.declared.time_span.TimeSpan.{TimeSpan}
-use Rattle.quantities.specs.declared.information.Information.{Information}
 use Rattle.quantities.specs.Doubles.{zeroF, power, inRange}
 use Rattle.quantities.specs.Units.{amountOf, since}
-use Rattle.quantities.proofs.Order.{le-trans, le-known-r, not-lt→le}
+use Rattle.quantities.proofs.Order.{le-trans}
 use Rattle.quantities.proofs.Ranges.{within-finite, sub-within}
 use Rattle.meters.specs.declared.meter.AverageFlowMeter.{AverageFlowMeter}
 use Rattle.meters.specs.Meter.{isOn, startFit, totalFit, sumFit, meterFit, notBefore, ready, taken, turned, countedOf, switchedOf, recordedOf}
-use Rattle.components.specs.declared.packet.Packet.{Packet}
 use Rattle.remy.proofs.Facts.{range-low, range-high, range-i}
 
 -- ---- a meter that is fit, at a clock in range

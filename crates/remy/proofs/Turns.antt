@@ -1,53 +1,47 @@
 -- The turns of a sender and of a toggler keep what a simulation keeps, and so does every tick. Assumes nothing.
-use mathlib.Core.Path.{_≡_, refl, sym, ap, subst, _∙_}
-use mathlib.Core.Bool.{Bool, true, false, not, _&&_, cond}
+use mathlib.Core.Path.{_≡_, refl, subst}
+use mathlib.Core.Bool.{Bool, true, false, not, cond}
 use mathlib.Core.List.{List, [], _∷_, _++_}
-use Prim.Native.Nat.{ℕ, zero, suc, _+_, _-_, _/_, _%_, _≤_, _<_}
+use Prim.Native.Nat.{ℕ, _+_, _-_, _/_, _%_, _<_}
 use borrow.Author.Tests.{eqb-true, ltb-true}
-use lib.Dec.{T, leb, ltb, eqb}
+use lib.Dec.{leb, ltb, eqb}
 use lib.ListN.{set}
 use lib.Ieee.{lt, le}
-use Rattle.quantities.specs.declared.time.Time.{Time}
 use Rattle.quantities.specs.Doubles.{zeroF, power}
 use Rattle.quantities.specs.Units.{spanOf}
 use Rattle.quantities.proofs.Order.{lt→le}
-use Rattle.rand.specs.Draws.{PositiveDraw, positiveOf}
+use Rattle.rand.specs.Draws.{positiveOf}
 use Rattle.components.specs.declared.packet.Packet.{Packet}
 use Rattle.components.specs.declared.link.Arrival.{Arrival}
 use Rattle.components.specs.declared.lossy.Enabled.{Enabled}
 use Rattle.components.specs.declared.lossy.SenderState.{SenderState}
 use Rattle.components.specs.declared.lossy.SenderState.the-variants as State
 use Rattle.components.specs.declared.lossy.Sent.{Sent}
-use Rattle.components.specs.declared.lossy.TimerSet.{TimerSet}
 use Rattle.components.specs.declared.toggler.Toggler.{Toggler}
 use Rattle.components.specs.declared.toggler.Toggled.{Toggled}
-use Rattle.components.specs.Ring.{places, placeAfter}
-use Rattle.components.specs.NewTime.{TimeAnswer, newTime}
+use Rattle.components.specs.Ring.{places}
+use Rattle.components.specs.NewTime.{newTime}
 use Rattle.components.specs.Link.{admits, admitted, receiveOf}
 use Rattle.components.specs.Sender.{windowSent, timerSent, timerDue, tickTimer, notSent, tickSend, enabledOf, disabledOf}
 use Rattle.components.specs.Sender.{sendWith as sentWith}
 use Rattle.components.specs.Toggler.{toggleOf}
-use Rattle.remy.specs.declared.simulation.Next.{Next}
-use Rattle.remy.specs.declared.simulation.Next.the-variants as Next
 use Rattle.remy.specs.declared.simulation.Simulation.{Simulation}
 use Rattle.remy.specs.declared.simulation.Mark.the-variants as Mark
 use Rattle.remy.specs.declared.simulation.Name.the-variants as Name
 use Rattle.remy.specs.declared.simulation.TickRecord.{TickRecord}
-use Rattle.remy.specs.declared.simulation.Ticked.{Ticked}
-use Rattle.remy.specs.State.{Role, link, sender, toggler, nobody, roleOf, senderAt, togglerAt, packetBits, withLine, withWaiting, withSender, withToggler}
+use Rattle.remy.specs.State.{Role, link, sender, toggler, nobody, roleOf, senderAt, togglerAt, packetBits, withSender, withToggler}
 use Rattle.remy.specs.Queue.{requeue, picked}
-use Rattle.remy.specs.Fit.{fit}
-use Rattle.remy.specs.Tick.{named, recordAt, marked, Message, arrives, switches, Acted, stopped, enabledSender, timerWith, sendWith, senderWith, senderActs, togglerWith, togglerActs, actsOf, Outcome, moves, stops, arriveWith, switchedSender, switchWith, deliver, pickAgain, outcomeWith, outcomeOf}
+use Rattle.remy.specs.Tick.{named, recordAt, arrives, Acted, stopped, enabledSender, timerWith, sendWith, senderWith, senderActs, togglerWith, togglerActs, actsOf, arriveWith, switchedSender, switchWith, deliver, pickAgain, outcomeWith, outcomeOf}
 use Rattle.remy.specs.History.{PacketId, Entry}
 use Rattle.remy.proofs.Lines.{entryAt}
-use Rattle.remy.proofs.Plain.{Plain, PlainIfAny}
-use Rattle.remy.proofs.Facts.{FitState, fit-state}
+use Rattle.remy.proofs.Plain.{PlainIfAny}
+use Rattle.remy.proofs.Facts.{FitState}
 use Rattle.remy.proofs.Networks.{FitNetwork, few-senders}
 use Rattle.remy.proofs.Kept.{PlainTimer, Kept, kept-lists, keep-sender, keep-toggler, count-sent}
 use Rattle.remy.proofs.Front.{accepted}
 use Rattle.remy.proofs.Steps.{cond-elim, keep-requeue, keep-picked}
 use Rattle.remy.proofs.Parts.{new-plain, sent-plain, timer-plain, draw-positive, keep-arrive, keep-switch}
-use Rattle.remy.proofs.Outcomes.{OnMoves, Grown, same, on-picked, on-stopped, link-good}
+use Rattle.remy.proofs.Outcomes.{OnMoves, Grown, same, on-stopped, link-good}
 
 module _ {adm sts lvs snd : List Entry} {cnt : List PacketId} {s : Simulation} (f : FitState s) (early : lt (power 40) (s .head .clock .0 .0) ≡ false)
     (k : Kept (s .network) adm sts lvs snd cnt s) where

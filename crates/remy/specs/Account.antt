@@ -2,12 +2,11 @@
 -- Dropped full, lost, counted, old and ignored are read in the history alone, waiting and on the line in the last state's rings alone.
 use Prim.Native.Nat.{ℕ, _+_, _≤_, _<_}
 use mathlib.Core.Path.{_≡_}
-use mathlib.Core.Bool.{Bool, true, false, _&&_, cond}
+use mathlib.Core.Bool.{_&&_, cond}
 use mathlib.Core.List.{List, [], _∷_, _++_, map}
 use lib.ListN.{length, take}
 use lib.Dec.{T, ltb, eqb}
 use lib.Ieee.{le}
-use Rattle.quantities.specs.declared.time.Time.{Time}
 use Rattle.quantities.specs.declared.time_span.TimeSpan.{TimeSpan}
 use Rattle.quantities.specs.Units.{spanOf, rateOf, amountOverRate}
 use Rattle.quantities.specs.Units.{after as spanAfter}
@@ -20,7 +19,7 @@ use Rattle.remy.specs.declared.simulation.Simulation.{Simulation}
 use Rattle.remy.specs.declared.simulation.TickRecord.{TickRecord}
 use Rattle.remy.specs.Network.{between}
 use Rattle.remy.specs.State.{senderAt, meterAt, waitingItems, onLineItems, onLinePackets, senderBits, packetBits, totalBits}
-use Rattle.remy.specs.History.{Call, after, history, Fresh, PacketId, idOf, Entry, ids, times, sends, admissions, starts, leaves, droppedFull, lost, counted, old, ignored}
+use Rattle.remy.specs.History.{Call, after, history, Fresh, PacketId, idOf, Entry, ids, times, admissions, starts, leaves, droppedFull, lost, counted, old, ignored}
 
 -- ---- counting in a list of packets
 

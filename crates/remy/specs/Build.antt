@@ -4,7 +4,6 @@ use mathlib.Core.Bool.{false, cond}
 use mathlib.Core.List.{List, [], _∷_}
 use lib.ListN.{set, replicate}
 use lib.Dec.{eqb}
-use Rattle.quantities.specs.declared.time.Time.{Time}
 use Rattle.quantities.specs.declared.time.OptionTime.the-variants.{None}
 use Rattle.quantities.specs.Doubles.{zeroF, power, least}
 use Rattle.quantities.specs.Units.{timeOf, amountOf}

@@ -1,13 +1,13 @@
 -- The state of a simulation: its parts by number, what stands for an element that is not there, and one setter for each field. Definitions only.
 use Prim.Native.Nat.{ℕ, _+_, _*_, _-_, _/_, _%_}
-use mathlib.Core.Bool.{Bool, true, false, cond}
+use mathlib.Core.Bool.{false, cond}
 use mathlib.Core.List.{List, [], _∷_, map}
 use lib.ListN.{getD, set}
-use lib.Dec.{ltb, leb, eqb}
+use lib.Dec.{ltb, eqb}
 use lib.Ieee.{nan}
 use Rattle.quantities.specs.declared.time.Time.{Time}
 use Rattle.quantities.specs.declared.time.OptionTime.{OptionTime}
-use Rattle.quantities.specs.declared.time.OptionTime.the-variants.{None, Some}
+use Rattle.quantities.specs.declared.time.OptionTime.the-variants.{None}
 use Rattle.quantities.specs.declared.information.Information.{Information}
 use Rattle.quantities.specs.Units.{spanOf, timeOf, amountOf}
 use Rattle.rand.specs.declared.generator.Rng.{Rng}
@@ -22,7 +22,6 @@ use Rattle.components.specs.declared.tick_queue.Queued.{Queued}
 use Rattle.components.specs.Ring.{items}
 use Rattle.components.specs.Queue.{noQueued}
 use Rattle.remy.specs.declared.network.RemyNetwork.{RemyNetwork}
-use Rattle.remy.specs.declared.simulation.Next.{Next}
 use Rattle.remy.specs.declared.simulation.Head.{Head}
 use Rattle.remy.specs.declared.simulation.Simulation.{Simulation}
 

@@ -1,7 +1,7 @@
 -- Demand 3 for the states that calls reach: the state after a run is that after so many ticks, and calls and histories append. Assumes nothing.
 use Prim.Native.Nat.{ℕ, zero, suc, _+_}
 use native.Mathlib.Omega.{arith}
-use mathlib.Core.Path.{_≡_, refl, sym, ap, ap₂, subst, _∙_}
+use mathlib.Core.Path.{_≡_, refl, sym, ap, subst, _∙_}
 use mathlib.Core.Bool.{Bool, true, false, cond, true≢false}
 use mathlib.Core.List.{List, [], _∷_, _++_}
 use Rattle.remy.specs.declared.simulation.Simulation.{Simulation}
@@ -10,7 +10,7 @@ use Rattle.remy.specs.declared.simulation.Ticked.{Ticked}
 use Rattle.remy.specs.declared.simulation.Ran.{Ran}
 use Rattle.remy.specs.Tick.{Outcome, moves, stops, ticked, tickOf}
 use Rattle.remy.specs.Run.{oneMore, runOf}
-use Rattle.remy.specs.History.{Call, tick, called, after, history, noted, Fresh}
+use Rattle.remy.specs.History.{Call, tick, called, after, history, noted}
 use Rattle.remy.specs.Account.{Account}
 use Rattle.remy.proofs.Account.{demand3}
 use Rattle.advance.proofs.Ticks.{tick-elim}

@@ -16,7 +16,7 @@ use Rattle.description.specs.declared.print.Put.{Put}
 use Rattle.description.specs.declared.print.Put.the-variants as Put
 use Rattle.description.specs.Printing.{refusedOf, recordOf, stopOf, written}
 use Rattle.report.specs.declared.run.Stage.the-variants as Stage
-use Rattle.report.specs.Lines.{recordLine, recordLines, stopLine, flowsFrom, endLines, runLines}
+use Rattle.report.specs.Lines.{recordLine, recordLines, stopLine, endLines, runLines}
 use Rattle.report.specs.Network.{networkOf}
 use Rattle.report.specs.Report.{Puts, puts, none, leftAt, leftOf, reportOf, ForText, AllPut}
 use Rattle.sweep.specs.Sweep.{countOf, CountPut}

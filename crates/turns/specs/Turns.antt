@@ -1,5 +1,5 @@
 -- The pieces of a tick that the loop of ticks calls, on small structs. Definitions only; the crate simulation proves that together they are the tick definition.
-use Prim.Native.Nat.{ℕ, _+_, _*_}
+use Prim.Native.Nat.{ℕ}
 use mathlib.Core.Bool.{Bool, true, false, cond}
 use lib.Dec.{ltb}
 use lib.Ieee.{lt}
@@ -47,7 +47,7 @@ use Rattle.remy.specs.declared.simulation.Name.{Name}
 use Rattle.remy.specs.declared.simulation.Name.the-variants as Name
 use Rattle.remy.specs.declared.simulation.TickRecord.{TickRecord}
 use Rattle.remy.specs.State.{Role, link, sender, toggler, nobody, senderPart, togglerPart, roleOf}
-use Rattle.remy.specs.Tick.{named, begunName, enabledSender, heardMark, switchMark}
+use Rattle.remy.specs.Tick.{named, begunName, enabledSender, heardMark}
 use Rattle.turns.specs.declared.Now.{Now}
 use Rattle.turns.specs.declared.Now.the-variants as Now
 use Rattle.turns.specs.declared.LinkActed.{LinkActed}

@@ -3,7 +3,6 @@
 //
 // All functions here are helpers for the crate `simulation`, and no entry points.
 ghost use mathlib.Core.Path.{_≡_};
-ghost use mathlib.Core.Bool.{cond};
 ghost use Prim.Native.Nat.{_+_, _*_, _≤_, _<_, _^_};
 ghost use Rattle.remy.specs.State.{roleOf};
 ghost use Rattle.remy.specs.Queue.{headOf};

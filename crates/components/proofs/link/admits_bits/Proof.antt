@@ -1,5 +1,4 @@
 -- The limit is compared without a sum that could wrap. Assumes nothing.
-use mathlib.Core.Path.{_≡_, sym, _∙_}
 use Rattle.components.proofs.Limits.{below-limit, above-limit}
 use Rattle.components.specs.Link.{admits}
 use borrow.Author.Needs.{needs}

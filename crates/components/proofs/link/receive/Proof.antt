@@ -1,5 +1,6 @@
 -- Each return rewrites by the tests that led there. Assumes nothing.
-use borrow.Author.Tests.{le-leb, lt-leb, not-false, not-true}
+use borrow.Author.Tests.{le-leb, lt-leb}
+use Rattle.quantities.proofs.Tested.{passed, failed}
 use Rattle.components.specs.Link.{receiveOf}
 use borrow.Author.Needs.{needs}
 use Rattle.components.proofs.link.receive.Statement.{statement}
@@ -10,18 +11,13 @@ admits-bits-requires c κs = search needs
 
 returns : tie.Need-returns
 unfolding receiveOf
-returns c =
-    rw (
-      ← c .before .admits-bits .ensures,
-      not-true (c .before .admits-bits .result) (c .if1 .taken),
-    )
+returns c = rw (failed (c .before .admits-bits .ensures) (c .if1 .taken))
 
 returns-2 : tie.Need-returns-2
 unfolding receiveOf
 returns-2 c =
     rw (
-      ← c .before .before .before .admits-bits .ensures,
-      not-false (c .before .before .before .admits-bits .result) (c .before .before .if1 .left),
+      passed (c .before .before .before .admits-bits .ensures) (c .before .before .if1 .left),
       le-leb _ _ (c .if2 .taken),
     )
 
@@ -37,8 +33,7 @@ returns-3 c =
     rw (
       c .push .ensures,
       c .before .before .before .add .ensures,
-      ← c .before .before .before .before .before .before .before .before .admits-bits .ensures,
-      not-false (c .before .before .before .before .before .before .before .before .admits-bits .result) (c .before .before .before .before .before .before .before .if1 .left),
+      passed (c .before .before .before .before .before .before .before .before .admits-bits .ensures) (c .before .before .before .before .before .before .before .if1 .left),
       lt-leb _ _ (c .before .before .before .before .before .if2 .left),
     )
 

@@ -1,8 +1,9 @@
 -- Each return rewrites by the tests that led there. Assumes nothing.
 use mathlib.Core.Path.{sym, _∙_}
 use native.Mathlib.Omega.{arith}
+use Rattle.quantities.proofs.Tested.{passed, failed}
 use Rattle.components.proofs.Limits.{due-count}
-use borrow.Author.Tests.{not-false, not-true}
+use borrow.Author.Tests.{not-false}
 use Rattle.components.specs.Link.{tryDeliver}
 use borrow.Author.Needs.{needs}
 use Rattle.components.proofs.link.try_deliver.Statement.{statement}
@@ -13,11 +14,7 @@ is-due-requires c κs = search needs
 
 returns : tie.Need-returns
 unfolding tryDeliver
-returns c =
-    rw (
-      ← c .before .is-due .ensures,
-      not-true (c .before .is-due .result) (c .if1 .taken),
-    )
+returns c = rw (failed (c .before .is-due .ensures) (c .if1 .taken))
 
 pop-requires : tie.Need-pop-requires
 pop-requires c κs =
@@ -33,8 +30,7 @@ unfolding tryDeliver
 returns-2 c =
     rw (
       c .before .before .before .before .before .pop .ensures,
-      ← c .before .before .before .before .before .before .before .before .before .before .is-due .ensures,
-      not-false (c .before .before .before .before .before .before .before .before .before .before .is-due .result) (c .before .before .before .before .before .before .before .before .before .if1 .left),
+      passed (c .before .before .before .before .before .before .before .before .before .before .is-due .ensures) (c .before .before .before .before .before .before .before .before .before .if1 .left),
       ← c .before .before .before .before .sample-unit .ensures,
       c .if2 .taken,
     )
@@ -44,8 +40,7 @@ unfolding tryDeliver
 returns-3 c =
     rw (
       c .before .before .before .before .before .pop .ensures,
-      ← c .before .before .before .before .before .before .before .before .before .before .is-due .ensures,
-      not-false (c .before .before .before .before .before .before .before .before .before .before .is-due .result) (c .before .before .before .before .before .before .before .before .before .if1 .left),
+      passed (c .before .before .before .before .before .before .before .before .before .before .is-due .ensures) (c .before .before .before .before .before .before .before .before .before .if1 .left),
       ← c .before .before .before .before .sample-unit .ensures,
       c .if2 .left,
     )

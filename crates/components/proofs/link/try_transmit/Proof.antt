@@ -1,8 +1,9 @@
 -- Each return rewrites by the tests and the cases that led there. Assumes nothing.
 use mathlib.Core.Path.{sym, _∙_}
 use native.Mathlib.Omega.{arith}
+use Rattle.quantities.proofs.Tested.{passed, failed}
 use Rattle.components.proofs.Limits.{free-count}
-use borrow.Author.Tests.{le-leb, lt-leb, not-false, not-true}
+use borrow.Author.Tests.{le-leb, lt-leb, not-false}
 use Rattle.components.specs.Link.{tryTransmit}
 use borrow.Author.Needs.{needs}
 use Rattle.components.proofs.link.try_transmit.Statement.{statement}
@@ -13,18 +14,13 @@ is-free-requires c κs = search needs
 
 returns : tie.Need-returns
 unfolding tryTransmit
-returns c =
-    rw (
-      ← c .before .is-free .ensures,
-      not-true (c .before .is-free .result) (c .if1 .taken),
-    )
+returns c = rw (failed (c .before .is-free .ensures) (c .if1 .taken))
 
 returns-2 : tie.Need-returns-2
 unfolding tryTransmit
 returns-2 c =
     rw (
-      ← c .before .before .before .is-free .ensures,
-      not-false (c .before .before .before .is-free .result) (c .before .before .if1 .left),
+      passed (c .before .before .before .is-free .ensures) (c .before .before .if1 .left),
       le-leb _ _ (c .if2 .taken),
     )
 
@@ -44,8 +40,7 @@ returns-3 : tie.Need-returns-3
 unfolding tryTransmit
 returns-3 c =
     rw (
-      ← c .before .before .before .before .before .before .before .is-free .ensures,
-      not-false (c .before .before .before .before .before .before .before .is-free .result) (c .before .before .before .before .before .before .if1 .left),
+      passed (c .before .before .before .before .before .before .before .is-free .ensures) (c .before .before .before .before .before .before .if1 .left),
       lt-leb _ _ (c .before .before .before .before .if2 .left),
       ← c .before .before .before .div-rate .ensures,
       ← c .before .before .new-time .ensures,
@@ -65,8 +60,7 @@ returns-4 : tie.Need-returns-4
 unfolding tryTransmit
 returns-4 c =
     rw (
-      ← c .before .before .before .before .before .before .before .before .before .before .before .is-free .ensures,
-      not-false (c .before .before .before .before .before .before .before .before .before .before .before .is-free .result) (c .before .before .before .before .before .before .before .before .before .before .if1 .left),
+      passed (c .before .before .before .before .before .before .before .before .before .before .before .is-free .ensures) (c .before .before .before .before .before .before .before .before .before .before .if1 .left),
       lt-leb _ _ (c .before .before .before .before .before .before .before .before .if2 .left),
       ← c .before .before .before .before .before .before .before .div-rate .ensures,
       ← c .before .before .before .before .before .before .new-time .ensures,
@@ -94,8 +88,7 @@ returns-5 c =
       c .push .ensures,
       c .before .pop .ensures,
       c .before .before .before .less .ensures,
-      ← c .before .before .before .before .before .before .before .before .before .before .before .before .before .before .before .before .is-free .ensures,
-      not-false (c .before .before .before .before .before .before .before .before .before .before .before .before .before .before .before .before .is-free .result) (c .before .before .before .before .before .before .before .before .before .before .before .before .before .before .before .if1 .left),
+      passed (c .before .before .before .before .before .before .before .before .before .before .before .before .before .before .before .before .is-free .ensures) (c .before .before .before .before .before .before .before .before .before .before .before .before .before .before .before .if1 .left),
       lt-leb _ _ (c .before .before .before .before .before .before .before .before .before .before .before .before .before .if2 .left),
       ← c .before .before .before .before .before .before .before .before .before .before .before .before .div-rate .ensures,
       ← c .before .before .before .before .before .before .before .before .before .before .before .new-time .ensures,

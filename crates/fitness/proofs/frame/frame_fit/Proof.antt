@@ -2,8 +2,9 @@
 use mathlib.Core.Path.{sym, _∙_}
 use lib.Ieee.{ofBits}
 use lib.Dec.{lit<}
-use borrow.Author.Tests.{eq-eqb, ne-eqb, not-false, not-true}
+use borrow.Author.Tests.{eq-eqb, ne-eqb, not-false}
 use borrow.Author.Needs.{needs}
+use Rattle.quantities.proofs.Tested.{passed, failed}
 use Rattle.fitness.specs.Tests.{frameTest}
 use Rattle.fitness.proofs.Bounds.{product-fits, framed}
 use Rattle.fitness.proofs.frame.frame_fit.Statement.{statement}
@@ -29,8 +30,7 @@ returns-2 c =
     rw (
       ← c .before .before .before .network-stop .ensures,
       eq-eqb _ _ (c .before .before .if1 .left),
-      ← c .before .rings-fit .ensures,
-      not-true (c .before .rings-fit .result) (c .if2 .taken),
+      failed (c .before .rings-fit .ensures) (c .if2 .taken),
     )
 
 mul-if3 : tie.Need-mul-if3
@@ -48,8 +48,7 @@ returns-3 c =
     rw (
       ← c .before .before .before .before .before .before .before .before .network-stop .ensures,
       eq-eqb _ _ (c .before .before .before .before .before .before .before .if1 .left),
-      ← c .before .before .before .before .before .before .rings-fit .ensures,
-      not-false (c .before .before .before .before .before .before .rings-fit .result) (c .before .before .before .before .before .if2 .left),
+      passed (c .before .before .before .before .before .before .rings-fit .ensures) (c .before .before .before .before .before .if2 .left),
       ne-eqb _ _ (c .if3 .taken),
     )
 
@@ -62,12 +61,10 @@ returns-4 c =
     rw (
       ← c .before .before .before .before .before .before .before .before .before .before .before .before .before .network-stop .ensures,
       eq-eqb _ _ (c .before .before .before .before .before .before .before .before .before .before .before .before .if1 .left),
-      ← c .before .before .before .before .before .before .before .before .before .before .before .rings-fit .ensures,
-      not-false (c .before .before .before .before .before .before .before .before .before .before .before .rings-fit .result) (c .before .before .before .before .before .before .before .before .before .before .if2 .left),
+      passed (c .before .before .before .before .before .before .before .before .before .before .before .rings-fit .ensures) (c .before .before .before .before .before .before .before .before .before .before .if2 .left),
       eq-eqb _ _ (c .before .before .before .before .before .if3 .left),
       c .before .before .if4 .taken,
-      ← c .before .clock-held .ensures,
-      not-true (c .before .clock-held .result) (c .if5 .taken),
+      failed (c .before .clock-held .ensures) (c .if5 .taken),
     )
 
 time-held-requires : tie.Need-time-held-requires
@@ -80,12 +77,10 @@ returns-5 c =
       c .time-held .ensures,
       ← c .before .before .before .before .before .before .before .before .before .before .before .before .before .before .before .network-stop .ensures,
       eq-eqb _ _ (c .before .before .before .before .before .before .before .before .before .before .before .before .before .before .if1 .left),
-      ← c .before .before .before .before .before .before .before .before .before .before .before .before .before .rings-fit .ensures,
-      not-false (c .before .before .before .before .before .before .before .before .before .before .before .before .before .rings-fit .result) (c .before .before .before .before .before .before .before .before .before .before .before .before .if2 .left),
+      passed (c .before .before .before .before .before .before .before .before .before .before .before .before .before .rings-fit .ensures) (c .before .before .before .before .before .before .before .before .before .before .before .before .if2 .left),
       eq-eqb _ _ (c .before .before .before .before .before .before .before .if3 .left),
       c .before .before .before .before .if4 .taken,
-      ← c .before .before .before .clock-held .ensures,
-      not-false (c .before .before .before .clock-held .result) (c .before .before .if5 .left),
+      passed (c .before .before .before .clock-held .ensures) (c .before .before .if5 .left),
     )
 
 returns-6 : tie.Need-returns-6
@@ -94,8 +89,7 @@ returns-6 c =
     rw (
       ← c .before .before .before .before .before .before .before .before .before .before .before .network-stop .ensures,
       eq-eqb _ _ (c .before .before .before .before .before .before .before .before .before .before .if1 .left),
-      ← c .before .before .before .before .before .before .before .before .before .rings-fit .ensures,
-      not-false (c .before .before .before .before .before .before .before .before .before .rings-fit .result) (c .before .before .before .before .before .before .before .before .if2 .left),
+      passed (c .before .before .before .before .before .before .before .before .before .rings-fit .ensures) (c .before .before .before .before .before .before .before .before .if2 .left),
       eq-eqb _ _ (c .before .before .before .if3 .left),
       c .if4 .left,
     )

@@ -1,7 +1,7 @@
 -- Each return rewrites by the tests that led there. Assumes nothing.
 use lib.Ieee.{ofBits}
-use borrow.Author.Tests.{not-false, not-true}
 use borrow.Author.Needs.{needs}
+use Rattle.quantities.proofs.Tested.{passed, failed}
 use Rattle.remy.specs.Network.{networkStop}
 use Rattle.fitness.proofs.network.network_stop.Statement.{statement}
 use Rattle.fitness.proofs.network.network_stop.Tie as tie
@@ -11,11 +11,7 @@ in-range-requires c κs = search needs
 
 returns : tie.Need-returns
 unfolding networkStop ofBits
-returns c =
-    rw (
-      ← c .before .in-range .ensures,
-      not-true (c .before .in-range .result) (c .if1 .taken),
-    )
+returns c = rw (failed (c .before .in-range .ensures) (c .if1 .taken))
 
 in-range-requires-2 : tie.Need-in-range-requires-2
 in-range-requires-2 c κs = search needs
@@ -24,10 +20,8 @@ returns-2 : tie.Need-returns-2
 unfolding networkStop ofBits
 returns-2 c =
     rw (
-      ← c .before .before .before .in-range .ensures,
-      not-false (c .before .before .before .in-range .result) (c .before .before .if1 .left),
-      ← c .before .in-range2 .ensures,
-      not-true (c .before .in-range2 .result) (c .if2 .taken),
+      passed (c .before .before .before .in-range .ensures) (c .before .before .if1 .left),
+      failed (c .before .in-range2 .ensures) (c .if2 .taken),
     )
 
 in-range-requires-3 : tie.Need-in-range-requires-3
@@ -37,12 +31,9 @@ returns-3 : tie.Need-returns-3
 unfolding networkStop ofBits
 returns-3 c =
     rw (
-      ← c .before .before .before .before .before .in-range .ensures,
-      not-false (c .before .before .before .before .before .in-range .result) (c .before .before .before .before .if1 .left),
-      ← c .before .before .before .in-range2 .ensures,
-      not-false (c .before .before .before .in-range2 .result) (c .before .before .if2 .left),
-      ← c .before .in-range3 .ensures,
-      not-true (c .before .in-range3 .result) (c .if3 .taken),
+      passed (c .before .before .before .before .before .in-range .ensures) (c .before .before .before .before .if1 .left),
+      passed (c .before .before .before .in-range2 .ensures) (c .before .before .if2 .left),
+      failed (c .before .in-range3 .ensures) (c .if3 .taken),
     )
 
 limit-fit-requires : tie.Need-limit-fit-requires
@@ -52,14 +43,10 @@ returns-4 : tie.Need-returns-4
 unfolding networkStop ofBits
 returns-4 c =
     rw (
-      ← c .before .before .before .before .before .before .before .in-range .ensures,
-      not-false (c .before .before .before .before .before .before .before .in-range .result) (c .before .before .before .before .before .before .if1 .left),
-      ← c .before .before .before .before .before .in-range2 .ensures,
-      not-false (c .before .before .before .before .before .in-range2 .result) (c .before .before .before .before .if2 .left),
-      ← c .before .before .before .in-range3 .ensures,
-      not-false (c .before .before .before .in-range3 .result) (c .before .before .if3 .left),
-      ← c .before .limit-fit .ensures,
-      not-true (c .before .limit-fit .result) (c .if4 .taken),
+      passed (c .before .before .before .before .before .before .before .in-range .ensures) (c .before .before .before .before .before .before .if1 .left),
+      passed (c .before .before .before .before .before .in-range2 .ensures) (c .before .before .before .before .if2 .left),
+      passed (c .before .before .before .in-range3 .ensures) (c .before .before .if3 .left),
+      failed (c .before .limit-fit .ensures) (c .if4 .taken),
     )
 
 sizes-fit-requires : tie.Need-sizes-fit-requires
@@ -69,16 +56,11 @@ returns-5 : tie.Need-returns-5
 unfolding networkStop ofBits
 returns-5 c =
     rw (
-      ← c .before .before .before .before .before .before .before .before .before .in-range .ensures,
-      not-false (c .before .before .before .before .before .before .before .before .before .in-range .result) (c .before .before .before .before .before .before .before .before .if1 .left),
-      ← c .before .before .before .before .before .before .before .in-range2 .ensures,
-      not-false (c .before .before .before .before .before .before .before .in-range2 .result) (c .before .before .before .before .before .before .if2 .left),
-      ← c .before .before .before .before .before .in-range3 .ensures,
-      not-false (c .before .before .before .before .before .in-range3 .result) (c .before .before .before .before .if3 .left),
-      ← c .before .before .before .limit-fit .ensures,
-      not-false (c .before .before .before .limit-fit .result) (c .before .before .if4 .left),
-      ← c .before .sizes-fit .ensures,
-      not-true (c .before .sizes-fit .result) (c .if5 .taken),
+      passed (c .before .before .before .before .before .before .before .before .before .in-range .ensures) (c .before .before .before .before .before .before .before .before .if1 .left),
+      passed (c .before .before .before .before .before .before .before .in-range2 .ensures) (c .before .before .before .before .before .before .if2 .left),
+      passed (c .before .before .before .before .before .in-range3 .ensures) (c .before .before .before .before .if3 .left),
+      passed (c .before .before .before .limit-fit .ensures) (c .before .before .if4 .left),
+      failed (c .before .sizes-fit .ensures) (c .if5 .taken),
     )
 
 times-fit-requires : tie.Need-times-fit-requires
@@ -88,18 +70,12 @@ returns-6 : tie.Need-returns-6
 unfolding networkStop ofBits
 returns-6 c =
     rw (
-      ← c .before .before .before .before .before .before .before .before .before .before .before .in-range .ensures,
-      not-false (c .before .before .before .before .before .before .before .before .before .before .before .in-range .result) (c .before .before .before .before .before .before .before .before .before .before .if1 .left),
-      ← c .before .before .before .before .before .before .before .before .before .in-range2 .ensures,
-      not-false (c .before .before .before .before .before .before .before .before .before .in-range2 .result) (c .before .before .before .before .before .before .before .before .if2 .left),
-      ← c .before .before .before .before .before .before .before .in-range3 .ensures,
-      not-false (c .before .before .before .before .before .before .before .in-range3 .result) (c .before .before .before .before .before .before .if3 .left),
-      ← c .before .before .before .before .before .limit-fit .ensures,
-      not-false (c .before .before .before .before .before .limit-fit .result) (c .before .before .before .before .if4 .left),
-      ← c .before .before .before .sizes-fit .ensures,
-      not-false (c .before .before .before .sizes-fit .result) (c .before .before .if5 .left),
-      ← c .before .times-fit .ensures,
-      not-true (c .before .times-fit .result) (c .if6 .taken),
+      passed (c .before .before .before .before .before .before .before .before .before .before .before .in-range .ensures) (c .before .before .before .before .before .before .before .before .before .before .if1 .left),
+      passed (c .before .before .before .before .before .before .before .before .before .in-range2 .ensures) (c .before .before .before .before .before .before .before .before .if2 .left),
+      passed (c .before .before .before .before .before .before .before .in-range3 .ensures) (c .before .before .before .before .before .before .if3 .left),
+      passed (c .before .before .before .before .before .limit-fit .ensures) (c .before .before .before .before .if4 .left),
+      passed (c .before .before .before .sizes-fit .ensures) (c .before .before .if5 .left),
+      failed (c .before .times-fit .ensures) (c .if6 .taken),
     )
 
 times-fit-requires-2 : tie.Need-times-fit-requires-2
@@ -109,20 +85,13 @@ returns-7 : tie.Need-returns-7
 unfolding networkStop ofBits
 returns-7 c =
     rw (
-      ← c .before .before .before .before .before .before .before .before .before .before .before .before .before .in-range .ensures,
-      not-false (c .before .before .before .before .before .before .before .before .before .before .before .before .before .in-range .result) (c .before .before .before .before .before .before .before .before .before .before .before .before .if1 .left),
-      ← c .before .before .before .before .before .before .before .before .before .before .before .in-range2 .ensures,
-      not-false (c .before .before .before .before .before .before .before .before .before .before .before .in-range2 .result) (c .before .before .before .before .before .before .before .before .before .before .if2 .left),
-      ← c .before .before .before .before .before .before .before .before .before .in-range3 .ensures,
-      not-false (c .before .before .before .before .before .before .before .before .before .in-range3 .result) (c .before .before .before .before .before .before .before .before .if3 .left),
-      ← c .before .before .before .before .before .before .before .limit-fit .ensures,
-      not-false (c .before .before .before .before .before .before .before .limit-fit .result) (c .before .before .before .before .before .before .if4 .left),
-      ← c .before .before .before .before .before .sizes-fit .ensures,
-      not-false (c .before .before .before .before .before .sizes-fit .result) (c .before .before .before .before .if5 .left),
-      ← c .before .before .before .times-fit .ensures,
-      not-false (c .before .before .before .times-fit .result) (c .before .before .if6 .left),
-      ← c .before .times-fit2 .ensures,
-      not-true (c .before .times-fit2 .result) (c .if7 .taken),
+      passed (c .before .before .before .before .before .before .before .before .before .before .before .before .before .in-range .ensures) (c .before .before .before .before .before .before .before .before .before .before .before .before .if1 .left),
+      passed (c .before .before .before .before .before .before .before .before .before .before .before .in-range2 .ensures) (c .before .before .before .before .before .before .before .before .before .before .if2 .left),
+      passed (c .before .before .before .before .before .before .before .before .before .in-range3 .ensures) (c .before .before .before .before .before .before .before .before .if3 .left),
+      passed (c .before .before .before .before .before .before .before .limit-fit .ensures) (c .before .before .before .before .before .before .if4 .left),
+      passed (c .before .before .before .before .before .sizes-fit .ensures) (c .before .before .before .before .if5 .left),
+      passed (c .before .before .before .times-fit .ensures) (c .before .before .if6 .left),
+      failed (c .before .times-fit2 .ensures) (c .if7 .taken),
     )
 
 policy-fit-requires : tie.Need-policy-fit-requires
@@ -132,44 +101,28 @@ returns-8 : tie.Need-returns-8
 unfolding networkStop ofBits
 returns-8 c =
     rw (
-      ← c .before .before .before .before .before .before .before .before .before .before .before .before .before .before .before .in-range .ensures,
-      not-false (c .before .before .before .before .before .before .before .before .before .before .before .before .before .before .before .in-range .result) (c .before .before .before .before .before .before .before .before .before .before .before .before .before .before .if1 .left),
-      ← c .before .before .before .before .before .before .before .before .before .before .before .before .before .in-range2 .ensures,
-      not-false (c .before .before .before .before .before .before .before .before .before .before .before .before .before .in-range2 .result) (c .before .before .before .before .before .before .before .before .before .before .before .before .if2 .left),
-      ← c .before .before .before .before .before .before .before .before .before .before .before .in-range3 .ensures,
-      not-false (c .before .before .before .before .before .before .before .before .before .before .before .in-range3 .result) (c .before .before .before .before .before .before .before .before .before .before .if3 .left),
-      ← c .before .before .before .before .before .before .before .before .before .limit-fit .ensures,
-      not-false (c .before .before .before .before .before .before .before .before .before .limit-fit .result) (c .before .before .before .before .before .before .before .before .if4 .left),
-      ← c .before .before .before .before .before .before .before .sizes-fit .ensures,
-      not-false (c .before .before .before .before .before .before .before .sizes-fit .result) (c .before .before .before .before .before .before .if5 .left),
-      ← c .before .before .before .before .before .times-fit .ensures,
-      not-false (c .before .before .before .before .before .times-fit .result) (c .before .before .before .before .if6 .left),
-      ← c .before .before .before .times-fit2 .ensures,
-      not-false (c .before .before .before .times-fit2 .result) (c .before .before .if7 .left),
-      ← c .before .policy-fit .ensures,
-      not-true (c .before .policy-fit .result) (c .if8 .taken),
+      passed (c .before .before .before .before .before .before .before .before .before .before .before .before .before .before .before .in-range .ensures) (c .before .before .before .before .before .before .before .before .before .before .before .before .before .before .if1 .left),
+      passed (c .before .before .before .before .before .before .before .before .before .before .before .before .before .in-range2 .ensures) (c .before .before .before .before .before .before .before .before .before .before .before .before .if2 .left),
+      passed (c .before .before .before .before .before .before .before .before .before .before .before .in-range3 .ensures) (c .before .before .before .before .before .before .before .before .before .before .if3 .left),
+      passed (c .before .before .before .before .before .before .before .before .before .limit-fit .ensures) (c .before .before .before .before .before .before .before .before .if4 .left),
+      passed (c .before .before .before .before .before .before .before .sizes-fit .ensures) (c .before .before .before .before .before .before .if5 .left),
+      passed (c .before .before .before .before .before .times-fit .ensures) (c .before .before .before .before .if6 .left),
+      passed (c .before .before .before .times-fit2 .ensures) (c .before .before .if7 .left),
+      failed (c .before .policy-fit .ensures) (c .if8 .taken),
     )
 
 returns-9 : tie.Need-returns-9
 unfolding networkStop ofBits
 returns-9 c =
     rw (
-      ← c .before .before .before .before .before .before .before .before .before .before .before .before .before .before .before .in-range .ensures,
-      not-false (c .before .before .before .before .before .before .before .before .before .before .before .before .before .before .before .in-range .result) (c .before .before .before .before .before .before .before .before .before .before .before .before .before .before .if1 .left),
-      ← c .before .before .before .before .before .before .before .before .before .before .before .before .before .in-range2 .ensures,
-      not-false (c .before .before .before .before .before .before .before .before .before .before .before .before .before .in-range2 .result) (c .before .before .before .before .before .before .before .before .before .before .before .before .if2 .left),
-      ← c .before .before .before .before .before .before .before .before .before .before .before .in-range3 .ensures,
-      not-false (c .before .before .before .before .before .before .before .before .before .before .before .in-range3 .result) (c .before .before .before .before .before .before .before .before .before .before .if3 .left),
-      ← c .before .before .before .before .before .before .before .before .before .limit-fit .ensures,
-      not-false (c .before .before .before .before .before .before .before .before .before .limit-fit .result) (c .before .before .before .before .before .before .before .before .if4 .left),
-      ← c .before .before .before .before .before .before .before .sizes-fit .ensures,
-      not-false (c .before .before .before .before .before .before .before .sizes-fit .result) (c .before .before .before .before .before .before .if5 .left),
-      ← c .before .before .before .before .before .times-fit .ensures,
-      not-false (c .before .before .before .before .before .times-fit .result) (c .before .before .before .before .if6 .left),
-      ← c .before .before .before .times-fit2 .ensures,
-      not-false (c .before .before .before .times-fit2 .result) (c .before .before .if7 .left),
-      ← c .before .policy-fit .ensures,
-      not-false (c .before .policy-fit .result) (c .if8 .left),
+      passed (c .before .before .before .before .before .before .before .before .before .before .before .before .before .before .before .in-range .ensures) (c .before .before .before .before .before .before .before .before .before .before .before .before .before .before .if1 .left),
+      passed (c .before .before .before .before .before .before .before .before .before .before .before .before .before .in-range2 .ensures) (c .before .before .before .before .before .before .before .before .before .before .before .before .if2 .left),
+      passed (c .before .before .before .before .before .before .before .before .before .before .before .in-range3 .ensures) (c .before .before .before .before .before .before .before .before .before .before .if3 .left),
+      passed (c .before .before .before .before .before .before .before .before .before .limit-fit .ensures) (c .before .before .before .before .before .before .before .before .if4 .left),
+      passed (c .before .before .before .before .before .before .before .sizes-fit .ensures) (c .before .before .before .before .before .before .if5 .left),
+      passed (c .before .before .before .before .before .times-fit .ensures) (c .before .before .before .before .if6 .left),
+      passed (c .before .before .before .times-fit2 .ensures) (c .before .before .if7 .left),
+      passed (c .before .policy-fit .ensures) (c .if8 .left),
     )
 
 pub network-stop-spec : {M : Type 1} → statement M

@@ -1,7 +1,7 @@
 -- Each return rewrites by the case and the tests that led there. Assumes nothing.
 use lib.Ieee.{ofBits}
-use borrow.Author.Tests.{not-false, not-true}
 use borrow.Author.Needs.{needs}
+use Rattle.quantities.proofs.Tested.{passed, failed}
 use Rattle.fitness.proofs.network.policy_fit.Statement.{statement}
 use Rattle.fitness.proofs.network.policy_fit.Tie as tie
 
@@ -22,8 +22,7 @@ unfolding ofBits
 returns c =
     rw (
       c .before .before .before .policy2 .given .1,
-      ← c .before .window-fit2 .ensures,
-      not-true (c .before .window-fit2 .result) (c .if1 .taken),
+      failed (c .before .window-fit2 .ensures) (c .if1 .taken),
     )
 
 window-fit-requires-3 : tie.Need-window-fit-requires-3
@@ -34,10 +33,8 @@ unfolding ofBits
 returns-2 c =
     rw (
       c .before .before .before .before .before .policy2 .given .1,
-      ← c .before .before .before .window-fit2 .ensures,
-      not-false (c .before .before .before .window-fit2 .result) (c .before .before .if1 .left),
-      ← c .before .window-fit3 .ensures,
-      not-true (c .before .window-fit3 .result) (c .if2 .taken),
+      passed (c .before .before .before .window-fit2 .ensures) (c .before .before .if1 .left),
+      failed (c .before .window-fit3 .ensures) (c .if2 .taken),
     )
 
 enum-known-policy-3 : tie.Need-enum-known-policy-3
@@ -51,8 +48,7 @@ unfolding ofBits
 returns-3 c =
     rw (
       c .before .before .before .policy3 .given .1,
-      ← c .before .window-fit4 .ensures,
-      not-true (c .before .window-fit4 .result) (c .if3 .taken),
+      failed (c .before .window-fit4 .ensures) (c .if3 .taken),
     )
 
 in-range-requires : tie.Need-in-range-requires
@@ -71,10 +67,8 @@ unfolding ofBits
 returns-5 c =
     rw (
       c .before .before .before .before .before .policy2 .given .1,
-      ← c .before .before .before .window-fit2 .ensures,
-      not-false (c .before .before .before .window-fit2 .result) (c .before .before .if1 .left),
-      ← c .before .window-fit3 .ensures,
-      not-false (c .before .window-fit3 .result) (c .if2 .left),
+      passed (c .before .before .before .window-fit2 .ensures) (c .before .before .if1 .left),
+      passed (c .before .window-fit3 .ensures) (c .if2 .left),
     )
 
 returns-6 : tie.Need-returns-6
@@ -83,8 +77,7 @@ returns-6 c =
     rw (
       c .in-range .ensures,
       c .before .before .before .before .policy3 .given .1,
-      ← c .before .before .window-fit4 .ensures,
-      not-false (c .before .before .window-fit4 .result) (c .before .if3 .left),
+      passed (c .before .before .window-fit4 .ensures) (c .before .if3 .left),
     )
 
 pub policy-fit-spec : {M : Type 1} → statement M

@@ -1,6 +1,6 @@
 -- Each return rewrites by the tests that led there. Assumes nothing.
-use borrow.Author.Tests.{not-false, not-true}
 use borrow.Author.Needs.{needs}
+use Rattle.quantities.proofs.Tested.{passed, failed}
 use Rattle.fitness.specs.Tests.{packetsTest}
 use Rattle.fitness.proofs.packets.packets_fit.Statement.{statement}
 use Rattle.fitness.proofs.packets.packets_fit.Tie as tie
@@ -10,11 +10,7 @@ waiting-fit-requires c κs = search needs
 
 returns : tie.Need-returns
 unfolding packetsTest
-returns c =
-    rw (
-      ← c .before .waiting-fit .ensures,
-      not-true (c .before .waiting-fit .result) (c .if1 .taken),
-    )
+returns c = rw (failed (c .before .waiting-fit .ensures) (c .if1 .taken))
 
 on-line-fit-requires : tie.Need-on-line-fit-requires
 on-line-fit-requires c κs = search needs
@@ -23,10 +19,8 @@ returns-2 : tie.Need-returns-2
 unfolding packetsTest
 returns-2 c =
     rw (
-      ← c .before .before .before .waiting-fit .ensures,
-      not-false (c .before .before .before .waiting-fit .result) (c .before .before .if1 .left),
-      ← c .before .on-line-fit .ensures,
-      not-true (c .before .on-line-fit .result) (c .if2 .taken),
+      passed (c .before .before .before .waiting-fit .ensures) (c .before .before .if1 .left),
+      failed (c .before .on-line-fit .ensures) (c .if2 .taken),
     )
 
 due-fit-requires : tie.Need-due-fit-requires
@@ -37,10 +31,8 @@ unfolding packetsTest
 returns-3 c =
     rw (
       c .due-fit .ensures,
-      ← c .before .before .before .before .waiting-fit .ensures,
-      not-false (c .before .before .before .before .waiting-fit .result) (c .before .before .before .if1 .left),
-      ← c .before .before .on-line-fit .ensures,
-      not-false (c .before .before .on-line-fit .result) (c .before .if2 .left),
+      passed (c .before .before .before .before .waiting-fit .ensures) (c .before .before .before .if1 .left),
+      passed (c .before .before .on-line-fit .ensures) (c .before .if2 .left),
     )
 
 pub packets-fit-spec : {M : Type 1} → statement M

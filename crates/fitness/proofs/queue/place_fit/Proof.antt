@@ -1,6 +1,6 @@
 -- Each return rewrites by the tests that led there. Assumes nothing.
-use borrow.Author.Tests.{not-false, not-true}
 use borrow.Author.Needs.{needs}
+use Rattle.quantities.proofs.Tested.{passed, failed}
 use Rattle.fitness.specs.Tests.{placeTest}
 use Rattle.fitness.proofs.queue.place_fit.Statement.{statement}
 use Rattle.fitness.proofs.queue.place_fit.Tie as tie
@@ -25,8 +25,7 @@ returns-2 c =
     rw (
       ← c .before .before .before .is-next .ensures,
       c .before .before .if1 .left,
-      ← c .before .queued-fit .ensures,
-      not-true (c .before .queued-fit .result) (c .if2 .taken),
+      failed (c .before .queued-fit .ensures) (c .if2 .taken),
     )
 
 same-time-requires : tie.Need-same-time-requires
@@ -39,8 +38,7 @@ returns-3 c =
       c .same-time .ensures,
       ← c .before .before .before .before .is-next .ensures,
       c .before .before .before .if1 .left,
-      ← c .before .before .queued-fit .ensures,
-      not-false (c .before .before .queued-fit .result) (c .before .if2 .left),
+      passed (c .before .before .queued-fit .ensures) (c .before .if2 .left),
     )
 
 pub place-fit-spec : {M : Type 1} → statement M

@@ -1,6 +1,6 @@
 -- Each return rewrites by the test that led there. Assumes nothing.
-use borrow.Author.Tests.{not-false, not-true}
 use borrow.Author.Needs.{needs}
+use Rattle.quantities.proofs.Tested.{passed, failed}
 use Rattle.fitness.specs.Tests.{queueTest}
 use Rattle.fitness.proofs.queue.queue_fit.Statement.{statement}
 use Rattle.fitness.proofs.queue.queue_fit.Tie as tie
@@ -10,11 +10,7 @@ next-fit-requires c κs = search needs
 
 returns : tie.Need-returns
 unfolding queueTest
-returns c =
-    rw (
-      ← c .before .next-fit .ensures,
-      not-true (c .before .next-fit .result) (c .if1 .taken),
-    )
+returns c = rw (failed (c .before .next-fit .ensures) (c .if1 .taken))
 
 places-fit-requires : tie.Need-places-fit-requires
 places-fit-requires c κs = search needs
@@ -24,8 +20,7 @@ unfolding queueTest
 returns-2 c =
     rw (
       c .places-fit .ensures,
-      ← c .before .before .next-fit .ensures,
-      not-false (c .before .before .next-fit .result) (c .before .if1 .left),
+      passed (c .before .before .next-fit .ensures) (c .before .if1 .left),
     )
 
 pub queue-fit-spec : {M : Type 1} → statement M

@@ -1,6 +1,6 @@
 -- Each return rewrites by the case and the test that led there. Assumes nothing.
-use borrow.Author.Tests.{not-false, not-true}
 use borrow.Author.Needs.{needs}
+use Rattle.quantities.proofs.Tested.{passed, failed}
 use Rattle.fitness.specs.Tests.{queuedTest}
 use Rattle.fitness.proofs.queue.queued_fit.Statement.{statement}
 use Rattle.fitness.proofs.queue.queued_fit.Tie as tie
@@ -19,8 +19,7 @@ unfolding queuedTest
 returns c =
     rw (
       c .before .before .before .queued .given .1,
-      ← c .before .time-held .ensures,
-      not-true (c .before .time-held .result) (c .if1 .taken),
+      failed (c .before .time-held .ensures) (c .if1 .taken),
     )
 
 returns-2 : tie.Need-returns-2
@@ -32,8 +31,7 @@ unfolding queuedTest
 returns-3 c =
     rw (
       c .before .before .before .before .before .queued .given .1,
-      ← c .before .before .before .time-held .ensures,
-      not-false (c .before .before .before .time-held .result) (c .before .before .if1 .left),
+      passed (c .before .before .before .time-held .ensures) (c .before .before .if1 .left),
     )
 
 pub queued-fit-spec : {M : Type 1} → statement M

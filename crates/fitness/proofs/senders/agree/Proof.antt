@@ -1,6 +1,6 @@
 -- Each return rewrites by the test that led there. Assumes nothing.
-use borrow.Author.Tests.{not-false, not-true}
 use borrow.Author.Needs.{needs}
+use Rattle.quantities.proofs.Tested.{passed, failed}
 use Rattle.fitness.specs.Tests.{agreeTest}
 use Rattle.fitness.proofs.senders.agree.Statement.{statement}
 use Rattle.fitness.proofs.senders.agree.Tie as tie
@@ -16,8 +16,7 @@ unfolding agreeTest
 returns c =
     rw (
       ← c .before .before .sender-on .ensures,
-      ← c .before .same .ensures,
-      not-true (c .before .same .result) (c .if1 .taken),
+      failed (c .before .same .ensures) (c .if1 .taken),
     )
 
 is-on-requires : tie.Need-is-on-requires
@@ -31,8 +30,7 @@ unfolding agreeTest
 returns-2 c =
     rw (
       ← c .before .before .before .before .sender-on .ensures,
-      ← c .before .before .before .same .ensures,
-      not-false (c .before .before .before .same .result) (c .before .before .if1 .left),
+      passed (c .before .before .before .same .ensures) (c .before .before .if1 .left),
       ← c .before .is-on .ensures,
       ← c .same2 .ensures,
     )

@@ -1,6 +1,7 @@
 -- Each return rewrites by the tests that led there. Assumes nothing.
-use borrow.Author.Tests.{le-leb, lt-leb, not-false, not-true}
+use borrow.Author.Tests.{le-leb, lt-leb}
 use borrow.Author.Needs.{needs}
+use Rattle.quantities.proofs.Tested.{passed, failed}
 use Rattle.fitness.specs.Tests.{enabledTest}
 use Rattle.fitness.proofs.senders.enabled_fit.Statement.{statement}
 use Rattle.fitness.proofs.senders.enabled_fit.Tie as tie
@@ -10,18 +11,13 @@ past-fit-requires c κs = search needs
 
 returns : tie.Need-returns
 unfolding enabledTest
-returns c =
-    rw (
-      ← c .before .past-fit .ensures,
-      not-true (c .before .past-fit .result) (c .if1 .taken),
-    )
+returns c = rw (failed (c .before .past-fit .ensures) (c .if1 .taken))
 
 returns-2 : tie.Need-returns-2
 unfolding enabledTest
 returns-2 c =
     rw (
-      ← c .before .before .before .past-fit .ensures,
-      not-false (c .before .before .before .past-fit .result) (c .before .before .if1 .left),
+      passed (c .before .before .before .past-fit .ensures) (c .before .before .if1 .left),
       lt-leb _ _ (c .if2 .taken),
     )
 
@@ -32,11 +28,9 @@ returns-3 : tie.Need-returns-3
 unfolding enabledTest
 returns-3 c =
     rw (
-      ← c .before .before .before .before .before .past-fit .ensures,
-      not-false (c .before .before .before .before .before .past-fit .result) (c .before .before .before .before .if1 .left),
+      passed (c .before .before .before .before .before .past-fit .ensures) (c .before .before .before .before .if1 .left),
       le-leb _ _ (c .before .before .if2 .left),
-      ← c .before .window-fit .ensures,
-      not-true (c .before .window-fit .result) (c .if3 .taken),
+      failed (c .before .window-fit .ensures) (c .if3 .taken),
     )
 
 timer-fit-requires : tie.Need-timer-fit-requires
@@ -47,11 +41,9 @@ unfolding enabledTest
 returns-4 c =
     rw (
       c .timer-fit .ensures,
-      ← c .before .before .before .before .before .before .past-fit .ensures,
-      not-false (c .before .before .before .before .before .before .past-fit .result) (c .before .before .before .before .before .if1 .left),
+      passed (c .before .before .before .before .before .before .past-fit .ensures) (c .before .before .before .before .before .if1 .left),
       le-leb _ _ (c .before .before .before .if2 .left),
-      ← c .before .before .window-fit .ensures,
-      not-false (c .before .before .window-fit .result) (c .before .if3 .left),
+      passed (c .before .before .window-fit .ensures) (c .before .if3 .left),
     )
 
 pub enabled-fit-spec : {M : Type 1} → statement M

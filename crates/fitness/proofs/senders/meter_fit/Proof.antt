@@ -1,8 +1,8 @@
 -- Each return rewrites by the tests that led there. Assumes nothing.
 use lib.Ieee.{ofBits}
 use lib.Dec.{lit<}
-use borrow.Author.Tests.{not-false, not-true}
 use borrow.Author.Needs.{needs}
+use Rattle.quantities.proofs.Tested.{passed, failed}
 use Rattle.fitness.specs.Tests.{meterTest}
 use Rattle.fitness.proofs.Bounds.{product-fits}
 use Rattle.fitness.proofs.senders.meter_fit.Statement.{statement}
@@ -13,11 +13,7 @@ start-fit-requires c κs = search needs
 
 returns : tie.Need-returns
 unfolding meterTest ofBits
-returns c =
-    rw (
-      ← c .before .start-fit .ensures,
-      not-true (c .before .start-fit .result) (c .if1 .taken),
-    )
+returns c = rw (failed (c .before .start-fit .ensures) (c .if1 .taken))
 
 in-range-requires : tie.Need-in-range-requires
 in-range-requires c κs = search needs
@@ -26,10 +22,8 @@ returns-2 : tie.Need-returns-2
 unfolding meterTest ofBits
 returns-2 c =
     rw (
-      ← c .before .before .before .before .start-fit .ensures,
-      not-false (c .before .before .before .before .start-fit .result) (c .before .before .before .if1 .left),
-      ← c .before .in-range .ensures,
-      not-true (c .before .in-range .result) (c .if2 .taken),
+      passed (c .before .before .before .before .start-fit .ensures) (c .before .before .before .if1 .left),
+      failed (c .before .in-range .ensures) (c .if2 .taken),
     )
 
 int-to-float-in-range : tie.Need-int-to-float-in-range
@@ -42,12 +36,9 @@ returns-3 : tie.Need-returns-3
 unfolding meterTest ofBits
 returns-3 c =
     rw (
-      ← c .before .before .before .before .before .before .before .before .start-fit .ensures,
-      not-false (c .before .before .before .before .before .before .before .before .start-fit .result) (c .before .before .before .before .before .before .before .if1 .left),
-      ← c .before .before .before .before .before .in-range .ensures,
-      not-false (c .before .before .before .before .before .in-range .result) (c .before .before .before .before .if2 .left),
-      ← c .before .in-range2 .ensures,
-      not-true (c .before .in-range2 .result) (c .if3 .taken),
+      passed (c .before .before .before .before .before .before .before .before .start-fit .ensures) (c .before .before .before .before .before .before .before .if1 .left),
+      passed (c .before .before .before .before .before .in-range .ensures) (c .before .before .before .before .if2 .left),
+      failed (c .before .in-range2 .ensures) (c .if3 .taken),
     )
 
 mul-result : tie.Need-mul-result
@@ -57,12 +48,9 @@ returns-4 : tie.Need-returns-4
 unfolding meterTest ofBits
 returns-4 c =
     rw (
-      ← c .before .before .before .before .before .before .before .before .before .before .start-fit .ensures,
-      not-false (c .before .before .before .before .before .before .before .before .before .before .start-fit .result) (c .before .before .before .before .before .before .before .before .before .if1 .left),
-      ← c .before .before .before .before .before .before .before .in-range .ensures,
-      not-false (c .before .before .before .before .before .before .before .in-range .result) (c .before .before .before .before .before .before .if2 .left),
-      ← c .before .before .before .in-range2 .ensures,
-      not-false (c .before .before .before .in-range2 .result) (c .before .before .if3 .left),
+      passed (c .before .before .before .before .before .before .before .before .before .before .start-fit .ensures) (c .before .before .before .before .before .before .before .before .before .if1 .left),
+      passed (c .before .before .before .before .before .before .before .in-range .ensures) (c .before .before .before .before .before .before .if2 .left),
+      passed (c .before .before .before .in-range2 .ensures) (c .before .before .if3 .left),
     )
 
 pub meter-fit-spec : {M : Type 1} → statement M

@@ -1,6 +1,6 @@
 -- Each return rewrites by the tests that led there. Assumes nothing.
-use borrow.Author.Tests.{not-false, not-true}
 use borrow.Author.Needs.{needs}
+use Rattle.quantities.proofs.Tested.{passed, failed}
 use Rattle.fitness.specs.Tests.{senderTest}
 use Rattle.fitness.proofs.senders.sender_fit.Statement.{statement}
 use Rattle.fitness.proofs.senders.sender_fit.Tie as tie
@@ -10,11 +10,7 @@ state-fit-requires c κs = search needs
 
 returns : tie.Need-returns
 unfolding senderTest
-returns c =
-    rw (
-      ← c .before .state-fit .ensures,
-      not-true (c .before .state-fit .result) (c .if1 .taken),
-    )
+returns c = rw (failed (c .before .state-fit .ensures) (c .if1 .taken))
 
 time-held-requires : tie.Need-time-held-requires
 time-held-requires c κs = search needs
@@ -23,10 +19,8 @@ returns-2 : tie.Need-returns-2
 unfolding senderTest
 returns-2 c =
     rw (
-      ← c .before .before .before .before .state-fit .ensures,
-      not-false (c .before .before .before .before .state-fit .result) (c .before .before .before .if1 .left),
-      ← c .before .time-held .ensures,
-      not-true (c .before .time-held .result) (c .if2 .taken),
+      passed (c .before .before .before .before .state-fit .ensures) (c .before .before .before .if1 .left),
+      failed (c .before .time-held .ensures) (c .if2 .taken),
     )
 
 meter-fit-requires : tie.Need-meter-fit-requires
@@ -36,12 +30,9 @@ returns-3 : tie.Need-returns-3
 unfolding senderTest
 returns-3 c =
     rw (
-      ← c .before .before .before .before .before .before .state-fit .ensures,
-      not-false (c .before .before .before .before .before .before .state-fit .result) (c .before .before .before .before .before .if1 .left),
-      ← c .before .before .before .time-held .ensures,
-      not-false (c .before .before .before .time-held .result) (c .before .before .if2 .left),
-      ← c .before .meter-fit .ensures,
-      not-true (c .before .meter-fit .result) (c .if3 .taken),
+      passed (c .before .before .before .before .before .before .state-fit .ensures) (c .before .before .before .before .before .if1 .left),
+      passed (c .before .before .before .time-held .ensures) (c .before .before .if2 .left),
+      failed (c .before .meter-fit .ensures) (c .if3 .taken),
     )
 
 sent-count-fit-requires : tie.Need-sent-count-fit-requires
@@ -51,14 +42,10 @@ returns-4 : tie.Need-returns-4
 unfolding senderTest
 returns-4 c =
     rw (
-      ← c .before .before .before .before .before .before .before .before .state-fit .ensures,
-      not-false (c .before .before .before .before .before .before .before .before .state-fit .result) (c .before .before .before .before .before .before .before .if1 .left),
-      ← c .before .before .before .before .before .time-held .ensures,
-      not-false (c .before .before .before .before .before .time-held .result) (c .before .before .before .before .if2 .left),
-      ← c .before .before .before .meter-fit .ensures,
-      not-false (c .before .before .before .meter-fit .result) (c .before .before .if3 .left),
-      ← c .before .sent-count-fit .ensures,
-      not-true (c .before .sent-count-fit .result) (c .if4 .taken),
+      passed (c .before .before .before .before .before .before .before .before .state-fit .ensures) (c .before .before .before .before .before .before .before .if1 .left),
+      passed (c .before .before .before .before .before .time-held .ensures) (c .before .before .before .before .if2 .left),
+      passed (c .before .before .before .meter-fit .ensures) (c .before .before .if3 .left),
+      failed (c .before .sent-count-fit .ensures) (c .if4 .taken),
     )
 
 agree-requires : tie.Need-agree-requires
@@ -69,14 +56,10 @@ unfolding senderTest
 returns-5 c =
     rw (
       c .agree .ensures,
-      ← c .before .before .before .before .before .before .before .before .before .state-fit .ensures,
-      not-false (c .before .before .before .before .before .before .before .before .before .state-fit .result) (c .before .before .before .before .before .before .before .before .if1 .left),
-      ← c .before .before .before .before .before .before .time-held .ensures,
-      not-false (c .before .before .before .before .before .before .time-held .result) (c .before .before .before .before .before .if2 .left),
-      ← c .before .before .before .before .meter-fit .ensures,
-      not-false (c .before .before .before .before .meter-fit .result) (c .before .before .before .if3 .left),
-      ← c .before .before .sent-count-fit .ensures,
-      not-false (c .before .before .sent-count-fit .result) (c .before .if4 .left),
+      passed (c .before .before .before .before .before .before .before .before .before .state-fit .ensures) (c .before .before .before .before .before .before .before .before .if1 .left),
+      passed (c .before .before .before .before .before .before .time-held .ensures) (c .before .before .before .before .before .if2 .left),
+      passed (c .before .before .before .before .meter-fit .ensures) (c .before .before .before .if3 .left),
+      passed (c .before .before .sent-count-fit .ensures) (c .before .if4 .left),
     )
 
 pub sender-fit-spec : {M : Type 1} → statement M

@@ -1,6 +1,6 @@
 -- Each return rewrites by the case and the test that led there. Assumes nothing.
-use borrow.Author.Tests.{not-false, not-true}
 use borrow.Author.Needs.{needs}
+use Rattle.quantities.proofs.Tested.{passed, failed}
 use Rattle.fitness.specs.Tests.{timerTest}
 use Rattle.fitness.proofs.senders.timer_fit.Statement.{statement}
 use Rattle.fitness.proofs.senders.timer_fit.Tie as tie
@@ -19,8 +19,7 @@ unfolding timerTest
 returns c =
     rw (
       c .before .before .before .timer .given .1,
-      ← c .before .time-held .ensures,
-      not-true (c .before .time-held .result) (c .if1 .taken),
+      failed (c .before .time-held .ensures) (c .if1 .taken),
     )
 
 is-timed-requires : tie.Need-is-timed-requires
@@ -36,8 +35,7 @@ returns-3 c =
     rw (
       c .is-timed .ensures,
       c .before .before .before .before .timer .given .1,
-      ← c .before .before .time-held .ensures,
-      not-false (c .before .before .time-held .result) (c .before .if1 .left),
+      passed (c .before .before .time-held .ensures) (c .before .if1 .left),
     )
 
 pub timer-fit-spec : {M : Type 1} → statement M

@@ -1,5 +1,5 @@
 -- Each arm rewrites by its test and its case. Assumes nothing.
-use borrow.Author.Tests.{not-false, not-true}
+use Rattle.quantities.proofs.Tested.{passed, failed}
 use Rattle.meters.specs.Average.{memberFit}
 use lib.Ieee.{ofBits}
 use borrow.Author.Needs.{needs}
@@ -11,11 +11,7 @@ in-range-requires c κs = search needs
 
 returns : tie.Need-returns
 unfolding memberFit ofBits
-returns c =
-    rw (
-      ← c .before .in-range .ensures,
-      not-true (c .before .in-range .result) (c .if1 .taken),
-    )
+returns c = rw (failed (c .before .in-range .ensures) (c .if1 .taken))
 
 enum-told : tie.Need-enum-told
 enum-told c = search needs
@@ -30,8 +26,7 @@ returns-2 : tie.Need-returns-2
 unfolding memberFit ofBits
 returns-2 c =
     rw (
-      ← c .before .before .before .in-range .ensures,
-      not-false (c .before .before .before .in-range .result) (c .before .before .if1 .left),
+      passed (c .before .before .before .in-range .ensures) (c .before .before .if1 .left),
       c .enum-told .given .1,
     )
 
@@ -39,8 +34,7 @@ returns-3 : tie.Need-returns-3
 unfolding memberFit ofBits
 returns-3 c =
     rw (
-      ← c .before .before .before .before .before .in-range .ensures,
-      not-false (c .before .before .before .before .before .in-range .result) (c .before .before .before .before .if1 .left),
+      passed (c .before .before .before .before .before .in-range .ensures) (c .before .before .before .before .if1 .left),
       c .before .before .known .given .1,
       ← c .in-range2 .ensures,
     )

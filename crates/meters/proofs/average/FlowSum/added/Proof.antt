@@ -1,5 +1,6 @@
 -- Each return rewrites by the tests that led there. Assumes nothing.
-use borrow.Author.Tests.{eq-eqb, le-leb, le-ltb, lt-leb, lt-ltb, ne-eqb, not-false, not-true}
+use borrow.Author.Tests.{eq-eqb, le-leb, le-ltb, lt-leb, lt-ltb, ne-eqb}
+use Rattle.quantities.proofs.Tested.{passed, failed}
 use Rattle.meters.specs.Average.{addedOf}
 use borrow.Author.Needs.{needs}
 use Rattle.meters.proofs.average.FlowSum.added.Statement.{statement}
@@ -55,8 +56,7 @@ returns-4 c =
       eq-eqb _ _ (c .before .before .before .before .before .if1 .left),
       lt-ltb _ _ (c .before .before .before .before .if2 .left),
       le-leb _ _ (c .before .before .before .if3 .left),
-      ← c .before .before .member-fit .ensures,
-      not-true (c .before .before .member-fit .result) (c .before .if4 .taken),
+      failed (c .before .before .member-fit .ensures) (c .before .if4 .taken),
     )
 
 summed-requires : tie.Need-summed-requires
@@ -88,8 +88,7 @@ returns-5 c =
       eq-eqb _ _ (c .before .before .before .before .before .before .before .before .if1 .left),
       lt-ltb _ _ (c .before .before .before .before .before .before .before .if2 .left),
       le-leb _ _ (c .before .before .before .before .before .before .if3 .left),
-      ← c .before .before .before .before .before .member-fit .ensures,
-      not-false (c .before .before .before .before .before .member-fit .result) (c .before .before .before .before .if4 .left),
+      passed (c .before .before .before .before .before .member-fit .ensures) (c .before .before .before .before .if4 .left),
       c .before .enum-told .given .1,
     )
 
@@ -102,8 +101,7 @@ returns-6 c =
       eq-eqb _ _ (c .before .before .before .before .before .before .before .before .before .if1 .left),
       lt-ltb _ _ (c .before .before .before .before .before .before .before .before .if2 .left),
       le-leb _ _ (c .before .before .before .before .before .before .before .if3 .left),
-      ← c .before .before .before .before .before .before .member-fit .ensures,
-      not-false (c .before .before .before .before .before .before .member-fit .result) (c .before .before .before .before .before .if4 .left),
+      passed (c .before .before .before .before .before .before .member-fit .ensures) (c .before .before .before .before .before .if4 .left),
       c .before .before .known .given .1,
     )
 

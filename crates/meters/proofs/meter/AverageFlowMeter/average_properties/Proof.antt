@@ -1,5 +1,5 @@
 -- Each return rewrites by the tests that led there. Assumes nothing.
-use borrow.Author.Tests.{not-false, not-true}
+use Rattle.quantities.proofs.Tested.{passed, failed}
 use Rattle.meters.specs.Meter.{readOf}
 use lib.Ieee.{ofBits}
 use borrow.Author.Needs.{needs}
@@ -26,8 +26,7 @@ returns-2 c =
     rw (
       ← c .before .before .before .before .enabled-time .ensures,
       c .before .before .if1 .left,
-      ← c .before .ready .ensures,
-      not-true (c .before .ready .result) (c .if2 .taken),
+      failed (c .before .ready .ensures) (c .if2 .taken),
     )
 
 div-span-requires : tie.Need-div-span-requires
@@ -44,8 +43,7 @@ returns-3 c =
       c .before .div-span .ensures,
       ← c .before .before .before .before .before .before .enabled-time .ensures,
       c .before .before .before .before .if1 .left,
-      ← c .before .before .before .ready .ensures,
-      not-false (c .before .before .before .ready .result) (c .before .before .if2 .left),
+      passed (c .before .before .before .ready .ensures) (c .before .before .if2 .left),
     )
 
 pub average-properties-spec : {M : Type 1} → statement M

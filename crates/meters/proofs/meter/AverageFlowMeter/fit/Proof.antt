@@ -1,5 +1,6 @@
 -- Each return rewrites by the tests that led there. Assumes nothing.
-use borrow.Author.Tests.{le-leb, lt-leb, not-false, not-true}
+use borrow.Author.Tests.{le-leb, lt-leb}
+use Rattle.quantities.proofs.Tested.{passed, failed}
 use Rattle.meters.specs.Meter.{meterFit}
 use lib.Ieee.{ofBits}
 use borrow.Author.Needs.{needs}
@@ -33,8 +34,7 @@ returns-3 c =
     rw (
       le-leb _ _ (c .before .before .before .before .if1 .left),
       le-leb _ _ (c .before .before .if2 .left),
-      ← c .before .start-fit .ensures,
-      not-true (c .before .start-fit .result) (c .if3 .taken),
+      failed (c .before .start-fit .ensures) (c .if3 .taken),
     )
 
 in-range-requires : tie.Need-in-range-requires
@@ -46,10 +46,8 @@ returns-4 c =
     rw (
       le-leb _ _ (c .before .before .before .before .before .before .if1 .left),
       le-leb _ _ (c .before .before .before .before .if2 .left),
-      ← c .before .before .before .start-fit .ensures,
-      not-false (c .before .before .before .start-fit .result) (c .before .before .if3 .left),
-      ← c .before .in-range .ensures,
-      not-true (c .before .in-range .result) (c .if4 .taken),
+      passed (c .before .before .before .start-fit .ensures) (c .before .before .if3 .left),
+      failed (c .before .in-range .ensures) (c .if4 .taken),
     )
 
 int-to-float-in-range : tie.Need-int-to-float-in-range
@@ -64,10 +62,8 @@ returns-5 c =
     rw (
       le-leb _ _ (c .before .before .before .before .before .before .before .before .if1 .left),
       le-leb _ _ (c .before .before .before .before .before .before .if2 .left),
-      ← c .before .before .before .before .before .start-fit .ensures,
-      not-false (c .before .before .before .before .before .start-fit .result) (c .before .before .before .before .if3 .left),
-      ← c .before .before .before .in-range .ensures,
-      not-false (c .before .before .before .in-range .result) (c .before .before .if4 .left),
+      passed (c .before .before .before .before .before .start-fit .ensures) (c .before .before .before .before .if3 .left),
+      passed (c .before .before .before .in-range .ensures) (c .before .before .if4 .left),
       ← c .in-range2 .ensures,
     )
 

@@ -1,5 +1,6 @@
 -- Each return rewrites by the tests that led there. Assumes nothing.
-use borrow.Author.Tests.{le-leb, le-ltb, lt-leb, lt-ltb, not-false, not-true}
+use borrow.Author.Tests.{le-leb, le-ltb, lt-leb, lt-ltb, not-false}
+use Rattle.quantities.proofs.Tested.{passed, failed}
 use Rattle.meters.specs.Meter.{recordedOf}
 use lib.Ieee.{ofBits}
 use borrow.Author.Needs.{needs}
@@ -14,11 +15,7 @@ ready-requires c κs = search needs
 
 returns : tie.Need-returns
 unfolding recordedOf ofBits
-returns c =
-    rw (
-      ← c .before .ready .ensures,
-      not-true (c .before .ready .result) (c .if1 .taken),
-    )
+returns c = rw (failed (c .before .ready .ensures) (c .if1 .taken))
 
 in-range-requires : tie.Need-in-range-requires
 in-range-requires c κs = search needs
@@ -27,20 +24,16 @@ returns-2 : tie.Need-returns-2
 unfolding recordedOf ofBits
 returns-2 c =
     rw (
-      ← c .before .before .before .ready .ensures,
-      not-false (c .before .before .before .ready .result) (c .before .before .if1 .left),
-      ← c .before .in-range .ensures,
-      not-true (c .before .in-range .result) (c .if2 .taken),
+      passed (c .before .before .before .ready .ensures) (c .before .before .if1 .left),
+      failed (c .before .in-range .ensures) (c .if2 .taken),
     )
 
 returns-3 : tie.Need-returns-3
 unfolding recordedOf ofBits
 returns-3 c =
     rw (
-      ← c .before .before .before .before .before .ready .ensures,
-      not-false (c .before .before .before .before .before .ready .result) (c .before .before .before .before .if1 .left),
-      ← c .before .before .before .in-range .ensures,
-      not-false (c .before .before .before .in-range .result) (c .before .before .if2 .left),
+      passed (c .before .before .before .before .before .ready .ensures) (c .before .before .before .before .if1 .left),
+      passed (c .before .before .before .in-range .ensures) (c .before .before .if2 .left),
       lt-leb _ _ (c .if3 .taken),
     )
 
@@ -48,10 +41,8 @@ returns-4 : tie.Need-returns-4
 unfolding recordedOf ofBits
 returns-4 c =
     rw (
-      ← c .before .before .before .before .before .before .before .ready .ensures,
-      not-false (c .before .before .before .before .before .before .before .ready .result) (c .before .before .before .before .before .before .if1 .left),
-      ← c .before .before .before .before .before .in-range .ensures,
-      not-false (c .before .before .before .before .before .in-range .result) (c .before .before .before .before .if2 .left),
+      passed (c .before .before .before .before .before .before .before .ready .ensures) (c .before .before .before .before .before .before .if1 .left),
+      passed (c .before .before .before .before .before .in-range .ensures) (c .before .before .before .before .if2 .left),
       le-leb _ _ (c .before .before .if3 .left),
       lt-leb _ _ (c .if4 .taken),
     )
@@ -60,10 +51,8 @@ returns-5 : tie.Need-returns-5
 unfolding recordedOf ofBits
 returns-5 c =
     rw (
-      ← c .before .before .before .before .before .before .before .before .ready .ensures,
-      not-false (c .before .before .before .before .before .before .before .before .ready .result) (c .before .before .before .before .before .before .before .if1 .left),
-      ← c .before .before .before .before .before .before .in-range .ensures,
-      not-false (c .before .before .before .before .before .before .in-range .result) (c .before .before .before .before .before .if2 .left),
+      passed (c .before .before .before .before .before .before .before .before .ready .ensures) (c .before .before .before .before .before .before .before .if1 .left),
+      passed (c .before .before .before .before .before .before .in-range .ensures) (c .before .before .before .before .before .if2 .left),
       le-leb _ _ (c .before .before .before .if3 .left),
       le-leb _ _ (c .before .if4 .left),
       le-ltb _ _ (c .if5 .taken),
@@ -88,10 +77,8 @@ returns-6 c =
     rw (
       c .summed .ensures,
       c .before .add .ensures,
-      ← c .before .before .before .before .before .before .before .before .before .before .before .ready .ensures,
-      not-false (c .before .before .before .before .before .before .before .before .before .before .before .ready .result) (c .before .before .before .before .before .before .before .before .before .before .if1 .left),
-      ← c .before .before .before .before .before .before .before .before .before .in-range .ensures,
-      not-false (c .before .before .before .before .before .before .before .before .before .in-range .result) (c .before .before .before .before .before .before .before .before .if2 .left),
+      passed (c .before .before .before .before .before .before .before .before .before .before .before .ready .ensures) (c .before .before .before .before .before .before .before .before .before .before .if1 .left),
+      passed (c .before .before .before .before .before .before .before .before .before .in-range .ensures) (c .before .before .before .before .before .before .before .before .if2 .left),
       le-leb _ _ (c .before .before .before .before .before .before .if3 .left),
       le-leb _ _ (c .before .before .before .before .if4 .left),
       lt-ltb _ _ (c .before .before .before .if5 .left),

@@ -1,5 +1,5 @@
 -- Each return rewrites by the tests and the case that led there. Assumes nothing.
-use borrow.Author.Tests.{not-false, not-true}
+use Rattle.quantities.proofs.Tested.{passed, failed}
 use Rattle.meters.specs.Meter.{ready}
 use lib.Ieee.{ofBits}
 use borrow.Author.Needs.{needs}
@@ -11,11 +11,7 @@ fit-requires c κs = search needs
 
 returns : tie.Need-returns
 unfolding ready ofBits
-returns c =
-    rw (
-      ← c .before .fit .ensures,
-      not-true (c .before .fit .result) (c .if1 .taken),
-    )
+returns c = rw (failed (c .before .fit .ensures) (c .if1 .taken))
 
 in-range-requires : tie.Need-in-range-requires
 in-range-requires c κs = search needs
@@ -24,10 +20,8 @@ returns-2 : tie.Need-returns-2
 unfolding ready ofBits
 returns-2 c =
     rw (
-      ← c .before .before .before .fit .ensures,
-      not-false (c .before .before .before .fit .result) (c .before .before .if1 .left),
-      ← c .before .in-range .ensures,
-      not-true (c .before .in-range .result) (c .if2 .taken),
+      passed (c .before .before .before .fit .ensures) (c .before .before .if1 .left),
+      failed (c .before .in-range .ensures) (c .if2 .taken),
     )
 
 enum-told : tie.Need-enum-told
@@ -40,10 +34,8 @@ returns-3 : tie.Need-returns-3
 unfolding ready ofBits
 returns-3 c =
     rw (
-      ← c .before .before .before .before .before .fit .ensures,
-      not-false (c .before .before .before .before .before .fit .result) (c .before .before .before .before .if1 .left),
-      ← c .before .before .before .in-range .ensures,
-      not-false (c .before .before .before .in-range .result) (c .before .before .if2 .left),
+      passed (c .before .before .before .before .before .fit .ensures) (c .before .before .before .before .if1 .left),
+      passed (c .before .before .before .in-range .ensures) (c .before .before .if2 .left),
       c .enum-told .given .1,
     )
 
@@ -51,10 +43,8 @@ returns-4 : tie.Need-returns-4
 unfolding ready ofBits
 returns-4 c =
     rw (
-      ← c .before .before .before .before .before .before .before .before .fit .ensures,
-      not-false (c .before .before .before .before .before .before .before .before .fit .result) (c .before .before .before .before .before .before .before .if1 .left),
-      ← c .before .before .before .before .before .before .in-range .ensures,
-      not-false (c .before .before .before .before .before .before .in-range .result) (c .before .before .before .before .before .if2 .left),
+      passed (c .before .before .before .before .before .before .before .before .fit .ensures) (c .before .before .before .before .before .before .before .if1 .left),
+      passed (c .before .before .before .before .before .before .in-range .ensures) (c .before .before .before .before .before .if2 .left),
       c .before .before .before .start .given .1,
     )
 

@@ -1,5 +1,6 @@
 -- Each return rewrites by the tests and the case that led there. Assumes nothing.
 use borrow.Author.Tests.{not-false, not-true}
+use Rattle.quantities.proofs.Tested.{passed, failed}
 use Rattle.meters.specs.Meter.{switchedOf}
 use borrow.Author.Needs.{needs}
 use Rattle.meters.proofs.meter.AverageFlowMeter.switch.Statement.{statement}
@@ -10,11 +11,7 @@ ready-requires c κs = search needs
 
 returns : tie.Need-returns
 unfolding switchedOf
-returns c =
-    rw (
-      ← c .before .ready .ensures,
-      not-true (c .before .ready .result) (c .if1 .taken),
-    )
+returns c = rw (failed (c .before .ready .ensures) (c .if1 .taken))
 
 enum-told : tie.Need-enum-told
 enum-told c = search needs
@@ -23,8 +20,7 @@ returns-2 : tie.Need-returns-2
 unfolding switchedOf
 returns-2 c =
     rw (
-      ← c .before .before .before .before .before .before .ready .ensures,
-      not-false (c .before .before .before .before .before .before .ready .result) (c .before .before .before .before .before .if1 .left),
+      passed (c .before .before .before .before .before .before .ready .ensures) (c .before .before .before .before .before .if1 .left),
       c .before .enum-told .given .1,
       not-true (c .before .before .before .before .before .before .before .args .on) (c .if2 .taken),
     )
@@ -36,8 +32,7 @@ returns-3 : tie.Need-returns-3
 unfolding switchedOf
 returns-3 c =
     rw (
-      ← c .before .before .before .before .before .before .before .ready .ensures,
-      not-false (c .before .before .before .before .before .before .before .ready .result) (c .before .before .before .before .before .before .if1 .left),
+      passed (c .before .before .before .before .before .before .before .ready .ensures) (c .before .before .before .before .before .before .if1 .left),
       c .before .before .start .given .1,
       c .if3 .taken,
     )
@@ -52,8 +47,7 @@ returns-4 : tie.Need-returns-4
 unfolding switchedOf
 returns-4 c =
     rw (
-      ← c .before .before .before .before .before .before .before .ready .ensures,
-      not-false (c .before .before .before .before .before .before .before .ready .result) (c .before .before .before .before .before .before .if1 .left),
+      passed (c .before .before .before .before .before .before .before .ready .ensures) (c .before .before .before .before .before .before .if1 .left),
       c .before .before .enum-told .given .1,
       not-false (c .before .before .before .before .before .before .before .before .args .on) (c .before .if2 .left),
     )
@@ -64,8 +58,7 @@ returns-5 c =
     rw (
       c .add .ensures,
       c .before .sub .ensures,
-      ← c .before .before .before .before .before .before .before .before .before .ready .ensures,
-      not-false (c .before .before .before .before .before .before .before .before .before .ready .result) (c .before .before .before .before .before .before .before .before .if1 .left),
+      passed (c .before .before .before .before .before .before .before .before .before .ready .ensures) (c .before .before .before .before .before .before .before .before .if1 .left),
       c .before .before .before .before .start .given .1,
       c .before .before .if3 .left,
     )
