@@ -1,3 +1,4 @@
+ghost use mathlib.Core.Bool.{cond};
 ghost use mathlib.Core.Path.{_≡_};
 ghost use Rattle.remy.specs.Network.{limitFit, sizesFit, timesFit, windowFit, policyFit, networkStop};
 use components::Limit;
@@ -10,35 +11,24 @@ use remy::RemyNetwork;
 pub fn network_stop(network: RemyNetwork) -> u32
     ensures { λ r. ⌜ r ≡ networkStop network ⌝ }
 {
-    if !in_range(0.0, 1048576.0, network.delay) {
-        return 1;
-    }
-    if !in_range(1.0, 1125899906842624.0, network.rate) {
-        return 2;
-    }
-    if !in_range(0.0, 1.0, network.loss) {
-        return 3;
-    }
     let limit = network.limit;
-    if !limit_fit(limit) {
-        return 4;
-    }
-    if !sizes_fit(network.bits, network.senders) {
-        return 5;
-    }
     let on = network.on;
-    if !times_fit(on) {
-        return 6;
-    }
     let off = network.off;
-    if !times_fit(off) {
-        return 6;
-    }
     let policy = network.policy;
-    if !policy_fit(policy) {
-        return 7;
-    }
-    0
+    let from_7 = stop_unless(policy_fit(policy), 7, 0);
+    let from_6 = stop_unless(times_fit(on), 6, stop_unless(times_fit(off), 6, from_7));
+    let from_5 = stop_unless(sizes_fit(network.bits, network.senders), 5, from_6);
+    let from_4 = stop_unless(limit_fit(limit), 4, from_5);
+    let from_3 = stop_unless(in_range(0.0, 1.0, network.loss), 3, from_4);
+    let from_2 = stop_unless(in_range(1.0, 1125899906842624.0, network.rate), 2, from_3);
+    stop_unless(in_range(0.0, 1048576.0, network.delay), 1, from_2)
+}
+
+// A number where a test fails, and what the tests after it give where it passes.
+fn stop_unless(fit: bool, number: u32, later: u32) -> u32
+    ensures { λ r. ⌜ r ≡ cond fit later number ⌝ }
+{
+    if fit { later } else { number }
 }
 
 // Whether a limit is absent or at most 2^50 bits.

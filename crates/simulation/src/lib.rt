@@ -4,7 +4,6 @@ ghost use mathlib.Core.Path.{_≡_};
 ghost use Rattle.remy.specs.Tick.{tickOf};
 ghost use Rattle.remy.specs.Run.{runOf};
 ghost use Rattle.simulation.specs.Reached.{TickAccount, RunAccount, toldFlow, flowOf};
-
 use meters::FlowRead;
 use quantities::Time;
 use remy::Ran;
