@@ -2,12 +2,10 @@
 // nothing.
 ghost use Prim.Native.Nat.{_≤_};
 use crate::print::slot;
-use crate::read::absent;
 use crate::read::double;
 use crate::read::moment;
 use crate::read::narrow;
 use crate::read::network_at;
-use crate::read::number;
 use crate::read::size;
 use crate::read::time_if_any;
 use components::Enabled;
@@ -26,6 +24,8 @@ use rand::Rng;
 use remy::Head;
 use remy::Next;
 use remy::Simulation;
+use script::absent;
+use script::number;
 
 // V and the fields of a network
 pub(crate) fn network(text: &[u8], at: usize, st: Simulation) -> Simulation {
