@@ -30,6 +30,7 @@ pub fn absent(text: &[u8], at: usize, k: usize) -> bool
     byte_at(text, field(at, k)) == b'-'
 }
 
+// The value of a byte as a digit.
 fn digit(b: u8) -> u64
     ensures { λ r. ⌜ (r ≡ digitOf b) × (r < 16) ⌝ }
 {

@@ -25,9 +25,7 @@ add-result : tie.Need-add-result Inv-loop μ-loop
 add-result c = omega arith
 
 returns : tie.Need-returns Inv-loop μ-loop
-returns c =
-    line-ends (now (c .before .before .before .before .args .text)) (c .before .before .before .loop .i) (c .before .before .loop-test .taken) (c .if1 .taken)
-    ∙ c .before .before .before .loop .inv
+returns c = line-ends (now (c .before .before .before .before .args .text)) (c .before .before .before .loop .i) (c .before .before .loop-test .taken) (c .if1 .taken) ∙ c .before .before .before .loop .inv
 
 add-i : tie.Need-add-i Inv-loop μ-loop
 add-i c = omega arith
@@ -36,9 +34,7 @@ loop-less : tie.Need-loop-less Inv-loop μ-loop
 loop-less c = omega arith
 
 loop-again : tie.Need-loop-again Inv-loop μ-loop
-loop-again c =
-    line-goes (now (c .before .before .before .before .args .text)) (c .before .before .before .loop .i) (c .before .before .loop-test .taken) (c .if1 .left)
-    ∙ c .before .before .before .loop .inv
+loop-again c = line-goes (now (c .before .before .before .before .args .text)) (c .before .before .before .loop .i) (c .before .before .loop-test .taken) (c .if1 .left) ∙ c .before .before .before .loop .inv
 
 returns-2 : tie.Need-returns-2 Inv-loop μ-loop
 returns-2 c = line-none (now (c .before .before .args .text)) (c .before .loop .i) (c .loop-test .left) ∙ c .before .loop .inv

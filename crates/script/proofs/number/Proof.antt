@@ -22,7 +22,7 @@ unfolding valueOf
 loop-holds c = (omega arith, refl, omega arith)
 
 mul-n : tie.Need-mul-n Inv-loop μ-loop
-mul-n c = record { fits = omega (arith, digit-fits (c .before .loop .n) 0 (c .before .loop .i) (c .before .loop .inv .2) (omega arith) (c .loop-test .taken)) }
+mul-n c = record { fits = omega (arith, digit-fits (c .before .loop .n) 0 (c .before .loop .i) (c .before .loop .inv .2) (omega arith) (omega arith)) }
 
 add-byte-at : tie.Need-add-byte-at Inv-loop μ-loop
 add-byte-at c = omega (arith, c .before .before .field .ensures .1)
@@ -34,7 +34,7 @@ digit-requires : tie.Need-digit-requires Inv-loop μ-loop
 digit-requires c κs = tt
 
 add-n : tie.Need-add-n Inv-loop μ-loop
-add-n c = record { fits = digit-fits _ _ _ (c .before .before .before .loop .inv .2) (c .digit .ensures .1) (c .before .before .loop-test .taken) }
+add-n c = record { fits = digit-fits _ _ _ (c .before .before .before .loop .inv .2) (c .digit .ensures .1) (omega arith) }
 
 add-i : tie.Need-add-i Inv-loop μ-loop
 add-i c = omega arith
