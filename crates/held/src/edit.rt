@@ -1,13 +1,11 @@
 // A simulation with one of its parts anew, from the fields of a line. An index out of range changes
 // nothing.
-ghost use Prim.Native.Nat.{_≤_};
+ghost use Prim.Native.Nat.{_<_, _≤_};
 use crate::print::slot;
-use crate::read::absent;
 use crate::read::double;
 use crate::read::moment;
 use crate::read::narrow;
 use crate::read::network_at;
-use crate::read::number;
 use crate::read::size;
 use crate::read::time_if_any;
 use components::Enabled;
@@ -26,6 +24,8 @@ use rand::Rng;
 use remy::Head;
 use remy::Next;
 use remy::Simulation;
+use script::absent;
+use script::number;
 
 // V and the fields of a network
 pub(crate) fn network(text: &[u8], at: usize, st: Simulation) -> Simulation {
@@ -76,11 +76,15 @@ pub(crate) fn line(text: &[u8], at: usize, st: Simulation) -> Simulation {
     out
 }
 
-fn packet_at(text: &[u8], at: usize) -> Packet {
-    Packet {
+fn transit_at(text: &[u8], at: usize) -> Transit {
+    let packet = Packet {
         sender: narrow(text, at, 2),
         seq: narrow(text, at, 3),
         sent_time: moment(text, at, 4),
+    };
+    Transit {
+        packet,
+        due: moment(text, at, 5),
     }
 }
 
@@ -93,35 +97,31 @@ fn at_most_512(n: usize) -> usize
     512
 }
 
+// O slot count sender sequence sent-time due: so many slots of those on the line
 // W slot count sender sequence sent-time: so many slots of those that wait
-pub(crate) fn waiting(text: &[u8], at: usize, st: Simulation) -> Simulation {
+pub(crate) fn slots(text: &[u8], at: usize, st: Simulation, on_line: bool) -> Simulation {
     let mut out = st;
     let start = size(text, at, 0);
     let n = at_most_512(size(text, at, 1));
-    let p = packet_at(text, at);
+    let x = transit_at(text, at);
     let mut k: usize = 0;
     while k < n {
-        let i = slot(start, k);
-        out.waiting[i] = p;
+        out = with_slot(out, slot(start, k), x, on_line);
         k += 1;
     }
     out
 }
 
-// O slot count sender sequence sent-time due: so many slots of those on the line
-pub(crate) fn on_line(text: &[u8], at: usize, st: Simulation) -> Simulation {
+fn with_slot(st: Simulation, i: usize, x: Transit, on_line: bool) -> Simulation
+    requires { ⌜ i < 512 ⌝ }
+{
     let mut out = st;
-    let start = size(text, at, 0);
-    let n = at_most_512(size(text, at, 1));
-    let packet = packet_at(text, at);
-    let due = moment(text, at, 5);
-    let x = Transit { packet, due };
-    let mut k: usize = 0;
-    while k < n {
-        let i = slot(start, k);
+    if on_line {
         out.on_line[i] = x;
-        k += 1;
+        return out;
     }
+    let packet = x.packet;
+    out.waiting[i] = packet;
     out
 }
 

@@ -33,14 +33,14 @@ mod whole;
 use components::NewTime;
 use print::moment;
 use quantities::TimeSpan;
-use read::byte_at;
 use read::narrow;
 use read::network_at;
-use read::next_line;
-use read::number;
 use remy::Built;
 use remy::Simulation;
 use remy::Ticked;
+use script::byte_at;
+use script::next_line;
+use script::number;
 use sink::Sink;
 use sink::decimal;
 use sink::folded;
@@ -106,8 +106,8 @@ fn changed(text: &[u8], at: usize, st: Simulation) -> Simulation {
         b'V' => edit::network(text, at, st),
         b'C' => edit::head(text, at, st),
         b'L' => edit::line(text, at, st),
-        b'W' => edit::waiting(text, at, st),
-        b'O' => edit::on_line(text, at, st),
+        b'W' => edit::slots(text, at, st, false),
+        b'O' => edit::slots(text, at, st, true),
         b'S' => edit::sender(text, at, st),
         b'G' => edit::toggler(text, at, st),
         b'M' => edit::meter(text, at, st),

@@ -7,6 +7,7 @@ use crate::sink::put;
 use components::LossySender;
 use components::Packet;
 use components::Queued;
+use components::Ring;
 use components::SenderState;
 use components::Toggler;
 use components::Transit;
@@ -71,20 +72,10 @@ pub(crate) fn state(out: Sink, st: Simulation) -> Sink {
     let b = next(put(a, b" next="), part);
     let c = moment(put(b, b" earliest="), line.earliest_transmit);
     let d = decimal(put(c, b" bits="), line.buffer_contains.0);
-    let wait = st.waiting;
-    let e = waiting(
-        put(d, b" waiting="),
-        wait,
-        line.waiting.start,
-        line.waiting.count,
-    );
-    let moving = st.on_line;
-    let f = on_line(
-        put(e, b" line="),
-        moving,
-        line.on_line.start,
-        line.on_line.count,
-    );
+    let waiting = line.waiting;
+    let e = packets(put(d, b" waiting="), st, waiting, false);
+    let on_line = line.on_line;
+    let f = packets(put(e, b" line="), st, on_line, true);
     let g = words(put(f, b" link="), line.rng);
     let n = few(st.network.senders) as usize;
     let senders = st.senders;
@@ -102,36 +93,29 @@ fn next(out: Sink, next: Next) -> Sink {
     }
 }
 
-// The packets that wait, in order.
-fn waiting(out: Sink, slots: [Packet; 512], start: usize, count: usize) -> Sink {
-    if count == 0 {
+// The packets of a ring, in order: those on the line, or those that wait.
+fn packets(out: Sink, st: Simulation, ring: Ring, on_line: bool) -> Sink {
+    if ring.count == 0 {
         return put(out, b"-");
     }
     let mut o = out;
     let mut k: usize = 0;
-    while k < count {
-        let at = slot(start, k);
-        let p = slots[at];
-        o = packet(separate(o, k), p);
+    while k < ring.count {
+        o = packet_at(separate(o, k), st, slot(ring.start, k), on_line);
         k += 1;
     }
     o
 }
 
-// The packets on the line, in order.
-fn on_line(out: Sink, slots: [Transit; 512], start: usize, count: usize) -> Sink {
-    if count == 0 {
-        return put(out, b"-");
+fn packet_at(out: Sink, st: Simulation, at: usize, on_line: bool) -> Sink
+    requires { ⌜ at < 512 ⌝ }
+{
+    if on_line {
+        let x = st.on_line[at];
+        return transit(out, x);
     }
-    let mut o = out;
-    let mut k: usize = 0;
-    while k < count {
-        let at = slot(start, k);
-        let x = slots[at];
-        o = transit(separate(o, k), x);
-        k += 1;
-    }
-    o
+    let p = st.waiting[at];
+    packet(out, p)
 }
 
 fn transit(out: Sink, x: Transit) -> Sink {

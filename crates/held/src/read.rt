@@ -1,5 +1,4 @@
-// Reads the fields of a line: a letter, then fields of 16 hexadecimal digits, each after a space. A
-// field that is not there reads as 0.
+// What the fields of a line give: a field that is not there reads as 0.
 ghost use Prim.Native.Nat.{_<_};
 use components::Limit;
 use components::Policy;
@@ -9,6 +8,8 @@ use quantities::TimeSpan;
 use quantities::float::from_bits;
 use rand::ContinuousDistribution;
 use remy::RemyNetwork;
+use script::absent;
+use script::number;
 
 // The network of the fields 0 to 15: delay, rate, loss, limit, bits, senders; on and off, each a kind
 // and two doubles; the policy's kind, two numbers and the gap.
@@ -64,10 +65,6 @@ pub(crate) fn time_if_any(text: &[u8], at: usize, k: usize) -> OptionTime {
     }
 }
 
-pub(crate) fn absent(text: &[u8], at: usize, k: usize) -> bool {
-    byte_at(text, field(at, k)) == b'-'
-}
-
 pub(crate) fn moment(text: &[u8], at: usize, k: usize) -> Time {
     Time(TimeSpan(double(text, at, k)))
 }
@@ -83,64 +80,4 @@ pub(crate) fn narrow(text: &[u8], at: usize, k: usize) -> u32 {
 
 pub(crate) fn size(text: &[u8], at: usize, k: usize) -> usize {
     (number(text, at, k) % 4294967296) as usize
-}
-
-// The place of a line's field k, counted from 0: a letter, and 17 bytes for each field before it.
-fn field(at: usize, k: usize) -> usize {
-    if at < 262144 {
-        if k < 18 {
-            return at + 2 + 17 * k;
-        }
-    }
-    262144
-}
-
-pub(crate) fn number(text: &[u8], at: usize, k: usize) -> u64 {
-    let from = field(at, k);
-    let mut n: u64 = 0;
-    for i in 0..16 {
-        n = (n % 0x1000_0000_0000_0000) * 16 + digit_at(text, from, i);
-    }
-    n
-}
-
-fn digit_at(text: &[u8], from: usize, i: usize) -> u64
-    ensures { λ r. ⌜ r < 16 ⌝ }
-{
-    if from > 524288 {
-        return 0;
-    }
-    if i > 16 {
-        return 0;
-    }
-    digit(byte_at(text, from + i))
-}
-
-fn digit(b: u8) -> u64
-    ensures { λ r. ⌜ r < 16 ⌝ }
-{
-    match b {
-        b'0'..=b'9' => (b - 48) as u64,
-        b'a'..=b'f' => (b - 87) as u64,
-        _ => 0,
-    }
-}
-
-pub(crate) fn byte_at(text: &[u8], at: usize) -> u8 {
-    if at < text.len() { text[at] } else { 0 }
-}
-
-// The place after the next LF, or the end.
-pub(crate) fn next_line(text: &[u8], at: usize) -> usize
-    requires { do ⌜ at < (← ⟦text.len()⟧) ⌝ }
-    ensures { λ r. ⌜ at < r ⌝ }
-{
-    let mut i = at;
-    while i < text.len() {
-        if text[i] == 10 {
-            return i + 1;
-        }
-        i += 1;
-    }
-    i
 }

@@ -6,10 +6,8 @@ use components::Line;
 use components::LossySender;
 use components::Packet;
 use components::Policy;
-use components::Queued;
 use components::SenderState;
 use components::Toggler;
-use components::Transit;
 use meters::AverageFlowMeter;
 use quantities::OptionTime;
 use quantities::Time;
@@ -25,16 +23,43 @@ pub(crate) fn digest(st: Simulation) -> u64 {
     let network = st.network;
     let head = st.head;
     let line = st.line;
-    let waiting = st.waiting;
-    let on_line = st.on_line;
-    let senders = st.senders;
-    let togglers = st.togglers;
-    let meters = st.meters;
-    let places = st.queue;
-    let a = of_line(of_head(of_network(0, network), head), line);
-    let b = of_on_line(of_waiting(a, waiting), on_line);
-    let c = of_togglers(of_senders(b, senders), togglers);
-    of_queue(of_meters(c, meters), places)
+    let mut h = of_line(of_head(of_network(0, network), head), line);
+    let mut i: usize = 0;
+    while i < 512 {
+        h = of_parts(of_place(of_slots(h, st, i), st, i), st, i);
+        i += 1;
+    }
+    h
+}
+
+// Each of these takes what stands at the index i, if the arrays go so far: a slot of each ring, a
+// place of the queue, a sender with its toggler and meter.
+fn of_slots(h: u64, st: Simulation, i: usize) -> u64 {
+    if i < 512 {
+        let p = st.waiting[i];
+        let x = st.on_line[i];
+        return of_moment(of_packet(of_packet(h, p), x.packet), x.due);
+    }
+    h
+}
+
+fn of_place(h: u64, st: Simulation, i: usize) -> u64 {
+    if i < 33 {
+        let place = st.queue[i];
+        let time = place.time;
+        return of_maybe(h, time);
+    }
+    h
+}
+
+fn of_parts(h: u64, st: Simulation, i: usize) -> u64 {
+    if i < 16 {
+        let s = st.senders[i];
+        let t = st.togglers[i];
+        let m = st.meters[i];
+        return of_meter(of_toggler(of_sender(h, s), t), m);
+    }
+    h
 }
 
 fn of_network(h: u64, n: RemyNetwork) -> u64 {
@@ -94,41 +119,8 @@ fn of_line(h: u64, line: Line) -> u64 {
     of_words(c, line.rng)
 }
 
-fn of_waiting(digest: u64, slots: [Packet; 512]) -> u64 {
-    let mut h = digest;
-    let mut i: usize = 0;
-    while i < 512 {
-        let p = slots[i];
-        h = of_packet(h, p);
-        i += 1;
-    }
-    h
-}
-
-fn of_on_line(digest: u64, slots: [Transit; 512]) -> u64 {
-    let mut h = digest;
-    let mut i: usize = 0;
-    while i < 512 {
-        let x = slots[i];
-        h = of_moment(of_packet(h, x.packet), x.due);
-        i += 1;
-    }
-    h
-}
-
 fn of_packet(h: u64, p: Packet) -> u64 {
     of_moment(step(step(h, p.sender as u64), p.seq as u64), p.sent_time)
-}
-
-fn of_senders(digest: u64, senders: [LossySender; 16]) -> u64 {
-    let mut h = digest;
-    let mut i: usize = 0;
-    while i < 16 {
-        let s = senders[i];
-        h = of_sender(h, s);
-        i += 1;
-    }
-    h
 }
 
 fn of_sender(h: u64, s: LossySender) -> u64 {
@@ -147,48 +139,14 @@ fn of_state(h: u64, state: SenderState) -> u64 {
     }
 }
 
-fn of_togglers(digest: u64, togglers: [Toggler; 16]) -> u64 {
-    let mut h = digest;
-    let mut i: usize = 0;
-    while i < 16 {
-        let t = togglers[i];
-        h = of_toggler(h, t);
-        i += 1;
-    }
-    h
-}
-
 fn of_toggler(h: u64, t: Toggler) -> u64 {
     of_words(of_moment(of_bool(h, t.enabled), t.next_toggle), t.rng)
-}
-
-fn of_meters(digest: u64, meters: [AverageFlowMeter; 16]) -> u64 {
-    let mut h = digest;
-    let mut i: usize = 0;
-    while i < 16 {
-        let m = meters[i];
-        h = of_meter(h, m);
-        i += 1;
-    }
-    h
 }
 
 fn of_meter(h: u64, m: AverageFlowMeter) -> u64 {
     let start = m.current_start;
     let a = of_maybe(of_double(h, m.total_time.0), start);
     of_double(step(step(a, m.total.0), m.records as u64), m.rtt_sum.0)
-}
-
-fn of_queue(digest: u64, places: [Queued; 33]) -> u64 {
-    let mut h = digest;
-    let mut k: usize = 0;
-    while k < 33 {
-        let q = places[k];
-        let time = q.time;
-        h = of_maybe(h, time);
-        k += 1;
-    }
-    h
 }
 
 fn of_words(h: u64, rng: Rng) -> u64 {

@@ -32,7 +32,10 @@ use quantities::Time;
 use quantities::TimeSpan;
 use quantities::float::from_bits;
 use quantities::float::to_bits;
-ghost use Prim.Native.Nat.{_<_};
+use script::absent;
+use script::byte_at;
+use script::next_line;
+use script::number;
 
 // The meter, the sums and the list that the commands work on. The list has the first 64 flows; a
 // count of 65 is more than these.
@@ -335,74 +338,10 @@ fn end_line() {
     io::write_all(1, b"\n");
 }
 
-// The place of a line's field k, counted from 0: a letter, and 17 bytes for each field before it.
-fn field(at: usize, k: usize) -> usize {
-    if at < 65536 {
-        if k < 8 {
-            return at + 2 + 17 * k;
-        }
-    }
-    65536
-}
-
-fn absent(text: &[u8], at: usize, k: usize) -> bool {
-    byte_at(text, field(at, k)) == b'-'
-}
-
 fn time_at(text: &[u8], at: usize, k: usize) -> Time {
     Time(TimeSpan(double(text, at, k)))
 }
 
 fn double(text: &[u8], at: usize, k: usize) -> f64 {
     from_bits(number(text, at, k))
-}
-
-fn number(text: &[u8], at: usize, k: usize) -> u64 {
-    let from = field(at, k);
-    let mut n: u64 = 0;
-    for i in 0..16 {
-        n = (n % 0x1000_0000_0000_0000) * 16 + digit_at(text, from, i);
-    }
-    n
-}
-
-fn digit_at(text: &[u8], from: usize, i: usize) -> u64
-    ensures { λ r. ⌜ r < 16 ⌝ }
-{
-    if from > 131072 {
-        return 0;
-    }
-    if i > 16 {
-        return 0;
-    }
-    digit(byte_at(text, from + i))
-}
-
-fn digit(b: u8) -> u64
-    ensures { λ r. ⌜ r < 16 ⌝ }
-{
-    match b {
-        b'0'..=b'9' => (b - 48) as u64,
-        b'a'..=b'f' => (b - 87) as u64,
-        _ => 0,
-    }
-}
-
-fn byte_at(text: &[u8], at: usize) -> u8 {
-    if at < text.len() { text[at] } else { 0 }
-}
-
-// The place after the next LF, or the end.
-fn next_line(text: &[u8], at: usize) -> usize
-    requires { do ⌜ at < (← ⟦text.len()⟧) ⌝ }
-    ensures { λ r. ⌜ at < r ⌝ }
-{
-    let mut i = at;
-    while i < text.len() {
-        if text[i] == 10 {
-            return i + 1;
-        }
-        i += 1;
-    }
-    i
 }

@@ -2,7 +2,10 @@
 use mathlib.Core.Path.{_≡_}
 use lib.ListN.{length}
 use Prim.Native.Nat.{_-_}
+use native.Mathlib.Omega.{arith}
 use borrow.Author.Needs.{needs}
+use denote.Ref.{now}
+use Rattle.script.proofs.Lines.{line-after}
 use Rattle.held.proofs.run.Statement.{statement}
 use Rattle.held.proofs.run.Tie as tie
 
@@ -25,7 +28,8 @@ next-line-requires : tie.Need-next-line-requires Inv-loop μ-loop
 next-line-requires c κs = search needs
 
 loop-less : tie.Need-loop-less Inv-loop μ-loop
-loop-less c = search needs
+loop-less c =
+    omega (arith, c .next-line .ensures, line-after (now (c .before .before .before .before .before .before .args .text)) (c .before .before .before .loop .at) (c .before .before .loop-test .taken))
 
 loop-again : tie.Need-loop-again Inv-loop μ-loop
 loop-again c = search needs

@@ -1,8 +1,11 @@
 -- Each line ends after its place. Assumes nothing.
-use mathlib.Core.Path.{_≡_, refl}
+use mathlib.Core.Path.{_≡_}
 use Prim.Native.Nat.{_-_}
 use lib.ListN.{length}
+use native.Mathlib.Omega.{arith}
 use borrow.Author.Needs.{needs}
+use denote.Ref.{now}
+use Rattle.script.proofs.Lines.{line-after}
 use Rattle.meter_scripts.proofs.run.Statement.{statement}
 use Rattle.meter_scripts.proofs.run.Tie as tie
 
@@ -28,7 +31,8 @@ next-line-requires : tie.Need-next-line-requires Inv-loop μ-loop
 next-line-requires c κs = search needs
 
 loop-less : tie.Need-loop-less Inv-loop μ-loop
-loop-less c = search needs
+loop-less c =
+    omega (arith, c .next-line .ensures, line-after (now (c .before .before .before .before .before .before .before .args .text)) (c .before .before .before .loop .at) (c .before .before .loop-test .taken))
 
 loop-again : tie.Need-loop-again Inv-loop μ-loop
 loop-again c = search needs

@@ -1,14 +1,14 @@
 -- The loop counts up to n, and a slot is below 512. Assumes nothing.
 use Prim.Native.Nat.{_-_, _≤_}
 use borrow.Author.Needs.{needs}
-use Rattle.held.proofs.edit.on_line.Statement.{statement}
-use Rattle.held.proofs.edit.on_line.Tie as tie
+use Rattle.held.proofs.edit.slots.Statement.{statement}
+use Rattle.held.proofs.edit.slots.Tie as tie
 
 abbrev Inv-loop : tie.InvT-loop
-Inv-loop text at out₀ start n x k₀ out k = k ≤ 512
+Inv-loop text at on-line out₀ start n x k₀ out k = k ≤ 512
 
 abbrev μ-loop : tie.MeasureT-loop
-μ-loop text at out₀ start n x k₀ out k = n - k
+μ-loop text at on-line out₀ start n x k₀ out k = n - k
 
 size-requires : tie.Need-size-requires Inv-loop μ-loop
 size-requires c κs = search needs
@@ -19,11 +19,8 @@ size-requires-2 c κs = search needs
 at-most-512-requires : tie.Need-at-most-512-requires Inv-loop μ-loop
 at-most-512-requires c κs = search needs
 
-packet-at-requires : tie.Need-packet-at-requires Inv-loop μ-loop
-packet-at-requires c κs = search needs
-
-moment-requires : tie.Need-moment-requires Inv-loop μ-loop
-moment-requires c κs = search needs
+transit-at-requires : tie.Need-transit-at-requires Inv-loop μ-loop
+transit-at-requires c κs = search needs
 
 loop-holds : tie.Need-loop-holds Inv-loop μ-loop
 loop-holds c = search needs
@@ -31,11 +28,8 @@ loop-holds c = search needs
 slot-requires : tie.Need-slot-requires Inv-loop μ-loop
 slot-requires c κs = search needs
 
-mul-x : tie.Need-mul-x Inv-loop μ-loop
-mul-x c = search needs
-
-element-set-from-x : tie.Need-element-set-from-x Inv-loop μ-loop
-element-set-from-x c = search needs
+with-slot-requires : tie.Need-with-slot-requires Inv-loop μ-loop
+with-slot-requires c κs = search needs
 
 add-k : tie.Need-add-k Inv-loop μ-loop
 add-k c = search needs
@@ -49,8 +43,8 @@ loop-again c = search needs
 returns : tie.Need-returns Inv-loop μ-loop
 returns c = search needs
 
-pub on-line-spec : {M : Type 1} → statement M
-on-line-spec =
+pub slots-spec : {M : Type 1} → statement M
+slots-spec =
     tie.close
     (tie.spec
     Inv-loop
@@ -58,12 +52,10 @@ on-line-spec =
     size-requires
     size-requires-2
     at-most-512-requires
-    packet-at-requires
-    moment-requires
+    transit-at-requires
     loop-holds
     slot-requires
-    mul-x
-    element-set-from-x
+    with-slot-requires
     add-k
     loop-less
     loop-again

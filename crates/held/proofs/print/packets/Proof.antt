@@ -1,14 +1,14 @@
 -- The loop counts up to the count, and a slot is below 512. Assumes nothing.
 use Prim.Native.Nat.{_-_, _≤_}
 use borrow.Author.Needs.{needs}
-use Rattle.held.proofs.print.waiting.Statement.{statement}
-use Rattle.held.proofs.print.waiting.Tie as tie
+use Rattle.held.proofs.print.packets.Statement.{statement}
+use Rattle.held.proofs.print.packets.Tie as tie
 
 abbrev Inv-loop : tie.InvT-loop
-Inv-loop start count slots o₀ k₀ o k = k ≤ count
+Inv-loop st ring on-line o₀ k₀ o k = k ≤ ring .count
 
 abbrev μ-loop : tie.MeasureT-loop
-μ-loop start count slots o₀ k₀ o k = count - k
+μ-loop st ring on-line o₀ k₀ o k = ring .count - k
 
 slice-aggregate-put : tie.Need-slice-aggregate-put Inv-loop μ-loop
 slice-aggregate-put c = search needs
@@ -22,20 +22,14 @@ returns c = search needs
 loop-holds : tie.Need-loop-holds Inv-loop μ-loop
 loop-holds c = search needs
 
-slot-requires : tie.Need-slot-requires Inv-loop μ-loop
-slot-requires c κs = search needs
-
-mul-p : tie.Need-mul-p Inv-loop μ-loop
-mul-p c = search needs
-
-array-copy-out-p : tie.Need-array-copy-out-p Inv-loop μ-loop
-array-copy-out-p c = search needs
-
 separate-requires : tie.Need-separate-requires Inv-loop μ-loop
 separate-requires c κs = search needs
 
-packet-requires : tie.Need-packet-requires Inv-loop μ-loop
-packet-requires c κs = search needs
+slot-requires : tie.Need-slot-requires Inv-loop μ-loop
+slot-requires c κs = search needs
+
+packet-at-requires : tie.Need-packet-at-requires Inv-loop μ-loop
+packet-at-requires c κs = search needs
 
 add-k : tie.Need-add-k Inv-loop μ-loop
 add-k c = search needs
@@ -49,8 +43,8 @@ loop-again c = search needs
 returns-2 : tie.Need-returns-2 Inv-loop μ-loop
 returns-2 c = search needs
 
-pub waiting-spec : {M : Type 1} → statement M
-waiting-spec =
+pub packets-spec : {M : Type 1} → statement M
+packets-spec =
     tie.close
     (tie.spec
     Inv-loop
@@ -59,11 +53,9 @@ waiting-spec =
     put-requires
     returns
     loop-holds
-    slot-requires
-    mul-p
-    array-copy-out-p
     separate-requires
-    packet-requires
+    slot-requires
+    packet-at-requires
     add-k
     loop-less
     loop-again
