@@ -29,7 +29,7 @@ module _ (s : Simulation) (f : FitState s) where
   unfolding networkFit
   accepted = fit-network (s .network) (eqb-true (networkStop (s .network)) 0 (f .network))
 
-  from-zero : T (le zeroF (s .head .clock .0 .0))
+  pub from-zero : T (le zeroF (s .head .clock .0 .0))
   unfolding clockFit
   from-zero = subst T (sym (f .clock)) tt
 

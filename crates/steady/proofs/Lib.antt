@@ -16,3 +16,4 @@ pub mod Requeue
 pub mod Pick
 pub mod Turns
 pub mod Steady
+pub mod Never

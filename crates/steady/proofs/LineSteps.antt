@@ -54,10 +54,10 @@ rising-end y (x ∷ (z ∷ zs)) e a =
 -- ---- the spans to a due time and to the next start
 
 module _ {n : RemyNetwork} (f : FitNetwork n) where
-  delay-within : within (n .delay) (power 24)
+  pub delay-within : within (n .delay) (power 24)
   delay-within = short (n .delay) (test→within (power 20) (n .delay) (f .delay))
 
-  sending-within : within (amountOverRate (amountOf (n .bits)) (rateOf (n .rate)) .0) (power 24)
+  pub sending-within : within (amountOverRate (amountOf (n .bits)) (rateOf (n .rate)) .0) (power 24)
   sending-within = (
     sending-from-zero f,
     sending (n .bits) (n .rate) (some-bits f) (few-bits f) (range-low (power 0) (power 50) (n .rate) (f .rate)) (range-high (power 0) (power 50) (n .rate) (f .rate)) .2,

@@ -64,7 +64,7 @@ new-ahead clock span e = by (timeFine clock (spanAfter clock span)) refl
 -- ---- timers
 
 -- a gap is at most 2^20
-gap-within : (gap : Float) → gapFit gap ≡ true → within gap (power 20)
+pub gap-within : (gap : Float) → gapFit gap ≡ true → within gap (power 20)
 gap-within gap e = (
   le-trans zeroF (fin false 1 (negsuc 19)) gap (unfold le in tt) (range-low (fin false 1 (negsuc 19)) (power 20) gap e),
   range-high (fin false 1 (negsuc 19)) (power 20) gap e,
