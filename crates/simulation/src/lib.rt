@@ -3,7 +3,7 @@
 ghost use mathlib.Core.Path.{_≡_};
 ghost use Rattle.remy.specs.Tick.{tickOf};
 ghost use Rattle.remy.specs.Run.{runOf};
-ghost use Rattle.simulation.specs.Reached.{TickAccount, RunAccount, toldFlow, flowOf};
+ghost use Rattle.simulation.specs.Reached.{TickAccount, Never14, RunAccount, toldFlow, flowOf};
 use meters::FlowRead;
 use quantities::Time;
 use remy::Ran;
@@ -16,9 +16,9 @@ pub enum SenderFlow {
     Of(FlowRead),
 }
 
-// One tick: 9, idle, 10, or the turn of the next part.
+// One tick: 9, idle, 10, or the turn of the next part. 14 is never met.
 pub fn tick(simulation: Simulation) -> Ticked
-    ensures { λ r. ⌜ (r ≡ tickOf simulation) × TickAccount simulation r ⌝ }
+    ensures { λ r. ⌜ (r ≡ tickOf simulation) × TickAccount simulation r × Never14 r ⌝ }
 {
     let a = advance::advance(simulation, 1);
     let note = a.note;
