@@ -127,7 +127,7 @@ module _ (n : ℕ) (s : Simulation) (d : List ℕ) (f : Filled) (mid : List ℕ)
       ∙ puts-then (endLines (runOf n s .number) (runOf n s .simulation)) (recordLines n s) d 0 (w .0))
       k
 
-  pub run-pauses : (left : ℕ) → f .report .stage ≡ Stage.Ticks left → FilledIs (puts (runLines n s) d 0) f mid
+  run-pauses : (left : ℕ) → f .report .stage ≡ Stage.Ticks left → FilledIs (puts (runLines n s) d 0) f mid
   unfolding runLines leftOf
   run-pauses left e =
       let m = f .report .simulation in
@@ -148,6 +148,17 @@ module _ (n : ℕ) (s : Simulation) (d : List ℕ) (f : Filled) (mid : List ℕ)
       appended : (a b : List (List ℕ)) → none a ≡ false → none (a ++ b) ≡ false
       appended [] b z = absurd (true≢false z)
       appended (l ∷ ls) b z = refl
+
+  -- the records did not end, so that some of them are left
+  pub run-waits : ((number : ℕ) → f .report .stage ≡ Stage.Stop number → ⊥) → FilledIs (puts (runLines n s) d 0) f mid
+  run-waits other = waits (f .report .stage) refl (h .here)
+    where
+      waits : (x : Stage) → f .report .stage ≡ x → FromHere n s (puts (recordLines n s) d 0 .rest) (f .report .simulation) x → FilledIs (puts (runLines n s) d 0) f mid
+      waits (Stage.Ticks left) e w = run-pauses left e
+      waits (Stage.Stop number) e w = absurd (other number e)
+      waits (Stage.Refused number) e w = absurd w
+      waits (Stage.Flows i) e w = absurd w
+      waits Stage.Done e w = absurd w
 
 -- ---- the flows
 

@@ -178,10 +178,7 @@ fn put_run(out: &mut [u8], n: u32, simulation: Simulation) -> Filled
             let stopped = report.simulation;
             put_end(out, f.at, number, stopped)
         }
-        Stage::Ticks(_) => f,
-        Stage::Refused(_) => f,
-        Stage::Flows(_) => f,
-        Stage::Done => f,
+        _ => f,
     }
 }
 
