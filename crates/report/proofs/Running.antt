@@ -22,7 +22,7 @@ use Rattle.report.specs.declared.run.Report.{Report}
 use Rattle.report.specs.declared.run.Filled.{Filled}
 use Rattle.report.specs.Lines.{recordLine, recordLines, flowAt, flowLine, flowLines, flowCount, flowsFrom, endLines, runLines}
 use Rattle.report.specs.Report.{Puts, puts, none, leftAt, leftOf, FilledIs, FromHere, RecordsIs}
-use Rattle.report.proofs.Putting.{put-goes, put-stays, puts-none, puts-then, puts-short, filled-short, filled-whole}
+use Rattle.report.proofs.Putting.{put-goes, put-stays, puts-none, puts-then, puts-short, line-left, filled-whole, filled-as}
 
 -- ---- a tick's record
 
@@ -195,9 +195,8 @@ module _ (s : Simulation) (i : ℕ) where
       pub flow-full : r ≡ Put.Full → FilledIs p (record { at = at; done = false; report = record { stage = Stage.Flows i; simulation = s } }) after
       unfolding leftOf
       flow-full e =
-          filled-short _ p at after (flowLine s i) (flowsFrom s (i + 1))
-          (sym inv ∙ ap (λ (x : List (List ℕ)). puts x d at) (flows-more h) ∙ put-stays _ (flowsFrom s (i + 1)) d at r after this e)
-          (flows-more h)
+          filled-as (ap (λ (x : List (List ℕ)). puts x d at) (sym (flows-more h)) ∙ inv)
+          (line-left _ (flowLine s i) (flowsFrom s (i + 1)) d at r after this e (flows-more h))
 
     pub flows-done : flowCount s ≤ i → FilledIs p (record { at = at; done = true; report = record { stage = Stage.Done; simulation = s } }) d
     unfolding leftOf

@@ -2,7 +2,7 @@
 use mathlib.Core.Path.{refl}
 use Rattle.report.specs.Lines.{endLines}
 use Rattle.report.specs.Report.{leftOf}
-use Rattle.report.proofs.Putting.{put-goes, put-stays, filled-short, filled-as}
+use Rattle.report.proofs.Putting.{put-goes, line-left, filled-as}
 use borrow.Author.Needs.{needs}
 use Rattle.report.proofs.run.put_end.Statement.{statement}
 use Rattle.report.proofs.run.put_end.Tie as tie
@@ -34,7 +34,7 @@ same-length-2 c = search needs
 
 returns-2 : tie.Need-returns-2
 unfolding endLines leftOf
-returns-2 c = rw (c .answer .ensures) (filled-short _ _ _ _ _ _ (put-stays _ _ _ _ _ _ (c .before .before .before .before .before .stop-bytes .ensures) (c .before .enum-told .given .1)) refl)
+returns-2 c = rw (c .answer .ensures) (line-left _ _ _ _ _ _ _ (c .before .before .before .before .before .stop-bytes .ensures) (c .before .enum-told .given .1) refl)
 
 pub put-end-spec : {M : Type 1} → statement M
 put-end-spec =

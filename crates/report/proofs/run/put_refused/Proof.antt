@@ -1,7 +1,7 @@
 -- One line, put or left. Assumes nothing.
 use mathlib.Core.Path.{refl, sym, _∙_}
 use Rattle.report.specs.Report.{leftOf}
-use Rattle.report.proofs.Putting.{put-goes, put-stays, puts-none, filled-short, filled-whole}
+use Rattle.report.proofs.Putting.{put-goes, puts-none, line-left, filled-whole}
 use borrow.Author.Needs.{needs}
 use Rattle.report.proofs.run.put_refused.Statement.{statement}
 use Rattle.report.proofs.run.put_refused.Tie as tie
@@ -33,7 +33,7 @@ same-length-2 c = search needs
 
 returns-2 : tie.Need-returns-2
 unfolding leftOf
-returns-2 c = rw (c .answer2 .ensures) (filled-short _ _ _ _ _ _ (put-stays _ _ _ _ _ _ (c .before .before .before .before .before .refused-line .ensures) (c .before .enum-told .given .1)) refl)
+returns-2 c = rw (c .answer2 .ensures) (line-left _ _ _ _ _ _ _ (c .before .before .before .before .before .refused-line .ensures) (c .before .enum-told .given .1) refl)
 
 pub put-refused-spec : {M : Type 1} → statement M
 put-refused-spec =
