@@ -89,15 +89,12 @@ pub fn both(text: &[u8], at: usize, key: &[u8], first: Kind, second: Kind) -> Tw
 pub fn limit_line(text: &[u8], at: usize) -> LimitAt
     ensures { λ r. ⌜ Reads limitForm (now (text .entry)) at (limited r) ⌝ }
 {
-    match word(text, at, b"limit=") {
-        Place::At(next) => match word(text, next, b"none\n") {
-            Place::At(last) => LimitAt::At(Limit::None, last),
-            Place::Refused => match ended(text, next, Kind::Whole(MOST64), b'\n') {
-                Number::At(bits, last) => LimitAt::At(Limit::Bits(bits), last),
-                Number::Refused => LimitAt::Refused,
-            },
+    match word(text, at, b"limit=none\n") {
+        Place::At(next) => LimitAt::At(Limit::None, next),
+        Place::Refused => match value(text, at, b"limit=", Kind::Whole(MOST64), b'\n') {
+            Number::At(bits, next) => LimitAt::At(Limit::Bits(bits), next),
+            Number::Refused => LimitAt::Refused,
         },
-        Place::Refused => LimitAt::Refused,
     }
 }
 
@@ -124,33 +121,30 @@ pub fn distribution_line(text: &[u8], at: usize, key: &[u8]) -> DistributionAt
 pub fn policy_line(text: &[u8], at: usize) -> PolicyAt
     ensures { λ r. ⌜ Reads policyForm (now (text .entry)) at (governed r) ⌝ }
 {
-    match word(text, at, b"policy=") {
-        Place::At(next) => match value(text, next, b"held:", Kind::Whole(MOST32), b'\n') {
-            Number::At(w, last) => PolicyAt::At(Policy::Held(w as u32), last),
-            Number::Refused => match both(
-                text,
+    match value(text, at, b"policy=held:", Kind::Whole(MOST32), b'\n') {
+        Number::At(w, next) => PolicyAt::At(Policy::Held(w as u32), next),
+        Number::Refused => match both(
+            text,
+            at,
+            b"policy=grown:",
+            Kind::Whole(MOST32),
+            Kind::Whole(MOST32),
+        ) {
+            Two::At(first, most, next) => PolicyAt::At(
+                Policy::Grown(first as u32, most as u32),
                 next,
-                b"grown:",
+            ),
+            Two::Refused => match both(
+                text,
+                at,
+                b"policy=timed:",
                 Kind::Whole(MOST32),
-                Kind::Whole(MOST32),
+                Kind::Double,
             ) {
-                Two::At(first, most, last) => PolicyAt::At(
-                    Policy::Grown(first as u32, most as u32),
-                    last,
-                ),
-                Two::Refused => match both(
-                    text,
-                    next,
-                    b"timed:",
-                    Kind::Whole(MOST32),
-                    Kind::Double,
-                ) {
-                    Two::At(most, gap, last) => PolicyAt::At(Policy::Timed(most as u32, gap), last),
-                    Two::Refused => PolicyAt::Refused,
-                },
+                Two::At(most, gap, next) => PolicyAt::At(Policy::Timed(most as u32, gap), next),
+                Two::Refused => PolicyAt::Refused,
             },
         },
-        Place::Refused => PolicyAt::Refused,
     }
 }
 

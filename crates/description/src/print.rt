@@ -1,8 +1,7 @@
 // The printed lines, put into a lent buffer at a position.
-ghost use Prim.Native.Nat.{_+_, _≤_, _<_};
+ghost use Prim.Native.Nat.{_+_, _-_, _≤_, _<_};
 ghost use mathlib.Core.Path.{_≡_};
 ghost use mathlib.Core.List.{[], _∷_, _++_};
-ghost use lib.Dec.{leb};
 ghost use lib.ListN.{length};
 ghost use Rattle.description.specs.Text.{digitByte, digitsOf, hexOf, decimalOf};
 ghost use Rattle.description.specs.Printing.{Wrote, PutIs, packetOf, measuredOf, recordOf, stopOf, refusedOf, flowOf};
@@ -96,30 +95,14 @@ fn put_hex(out: &mut [u8], at: usize, key: &[u8], v: u64) -> usize
     put_digits(out, next, 16, 16, v)
 }
 
-// A word and a whole number.
-fn put_whole(out: &mut [u8], at: usize, key: &[u8], n: u64) -> usize
-    requires { ⌜ at + (length (now key) + length (decimalOf n)) ≤ length (now out) ⌝ }
-    ensures { λ r. ⌜ Wrote (length (now (key .entry)) + length (decimalOf n)) (now (key .entry) ++ decimalOf n) (now (out .entry)) at r (now (out .exit)) ⌝ }
+// A word and a whole number, of at most 20 digits.
+fn put_decimal(out: &mut [u8], at: usize, key: &[u8], n: u64) -> usize
+    requires { ⌜ at + (length (now key) + 20) ≤ length (now out) ⌝ }
+    ensures { λ r. ⌜ Wrote (length (now (key .entry)) + 20) (now (key .entry) ++ decimalOf n) (now (out .entry)) at r (now (out .exit)) ⌝ }
 {
     let next = put_word(out, at, key);
     let k = decimal_digits(n);
     put_digits(out, next, 10, k, n)
-}
-
-// A word and a number of 32 bits.
-fn put_decimal(out: &mut [u8], at: usize, key: &[u8], n: u32) -> usize
-    requires { ⌜ at + (length (now key) + 10) ≤ length (now out) ⌝ }
-    ensures { λ r. ⌜ Wrote (length (now (key .entry)) + 10) (now (key .entry) ++ decimalOf n) (now (out .entry)) at r (now (out .exit)) ⌝ }
-{
-    put_whole(out, at, key, n as u64)
-}
-
-// A word and a part's number.
-fn put_part(out: &mut [u8], at: usize, key: &[u8], n: usize) -> usize
-    requires { ⌜ at + (length (now key) + 20) ≤ length (now out) ⌝ }
-    ensures { λ r. ⌜ Wrote (length (now (key .entry)) + 20) (now (key .entry) ++ decimalOf n) (now (out .entry)) at r (now (out .exit)) ⌝ }
-{
-    put_whole(out, at, key, n as u64)
 }
 
 // A word and one byte.
@@ -131,16 +114,16 @@ fn put_letter(out: &mut [u8], at: usize, key: &[u8], b: u8) -> usize
     put_byte(out, next, b)
 }
 
-// A word and a packet.
+// A word and a packet. The sequence is put where 20 digits have room, though it has at most 10.
 fn put_packet(out: &mut [u8], at: usize, key: &[u8], packet: Named) -> usize
-    requires { ⌜ at + (length (now key) + 21) ≤ length (now out) ⌝ }
+    requires { ⌜ at + (length (now key) + 31) ≤ length (now out) ⌝ }
     ensures { λ r. ⌜ Wrote (length (now (key .entry)) + 21) (now (key .entry) ++ packetOf packet) (now (out .entry)) at r (now (out .exit)) ⌝ }
 {
     match packet {
         Named::None => put_letter(out, at, key, b'-'),
         Named::Packet(sender, sequence) => {
-            let next = put_decimal(out, at, key, sender);
-            put_decimal(out, next, b":", sequence)
+            let next = put_decimal(out, at, key, sender as u64);
+            put_decimal(out, next, b":", sequence as u64)
         }
     }
 }
@@ -156,17 +139,11 @@ fn put_measured(out: &mut [u8], at: usize, key: &[u8], value: Measured) -> usize
     }
 }
 
-// Whether 128 bytes are left from a position.
-fn roomy(len: usize, at: usize) -> bool
-    ensures { λ r. ⌜ r ≡ leb (at + 128) len ⌝ }
+// How many bytes are left from a position.
+fn left(len: usize, at: usize) -> usize
+    ensures { λ r. ⌜ r ≡ len - at ⌝ }
 {
-    if len < 128 {
-        return false;
-    }
-    if len - 128 < at {
-        return false;
-    }
-    true
+    if at < len { len - at } else { 0 }
 }
 
 // A tick's record.
@@ -181,9 +158,9 @@ pub fn record_line(
 ) -> Put
     ensures { λ r. ⌜ PutIs (recordOf time part mark packet line) (now (out .entry)) at r (now (out .exit)) ⌝ }
 {
-    if roomy(out.len(), at) {
+    if 128 <= left(out.len(), at) {
         let a = put_hex(out, at, b"time=", time);
-        let b = put_part(out, a, b" part=", part);
+        let b = put_decimal(out, a, b" part=", part as u64);
         let c = put_letter(out, b, b" mark=", mark);
         let d = put_packet(out, c, b" packet=", packet);
         let e = put_packet(out, d, b" line=", line);
@@ -197,8 +174,8 @@ pub fn record_line(
 pub fn stop_line(out: &mut [u8], at: usize, number: u32, clock: u64) -> Put
     ensures { λ r. ⌜ PutIs (stopOf number clock) (now (out .entry)) at r (now (out .exit)) ⌝ }
 {
-    if roomy(out.len(), at) {
-        let a = put_decimal(out, at, b"stop=", number);
+    if 128 <= left(out.len(), at) {
+        let a = put_decimal(out, at, b"stop=", number as u64);
         let b = put_hex(out, a, b" clock=", clock);
         Put::At(put_byte(out, b, b'\n'))
     } else {
@@ -210,8 +187,8 @@ pub fn stop_line(out: &mut [u8], at: usize, number: u32, clock: u64) -> Put
 pub fn refused_line(out: &mut [u8], at: usize, number: u32) -> Put
     ensures { λ r. ⌜ PutIs (refusedOf number) (now (out .entry)) at r (now (out .exit)) ⌝ }
 {
-    if roomy(out.len(), at) {
-        let a = put_decimal(out, at, b"stop=", number);
+    if 128 <= left(out.len(), at) {
+        let a = put_decimal(out, at, b"stop=", number as u64);
         Put::At(put_byte(out, a, b'\n'))
     } else {
         Put::Full
@@ -230,10 +207,10 @@ pub fn flow_line(
 ) -> Put
     ensures { λ r. ⌜ PutIs (flowOf flow sent counted rate rtt) (now (out .entry)) at r (now (out .exit)) ⌝ }
 {
-    if roomy(out.len(), at) {
-        let a = put_decimal(out, at, b"flow=", flow);
-        let b = put_decimal(out, a, b" sent=", sent);
-        let c = put_decimal(out, b, b" counted=", counted);
+    if 128 <= left(out.len(), at) {
+        let a = put_decimal(out, at, b"flow=", flow as u64);
+        let b = put_decimal(out, a, b" sent=", sent as u64);
+        let c = put_decimal(out, b, b" counted=", counted as u64);
         let d = put_measured(out, c, b" rate=", rate);
         let e = put_measured(out, d, b" rtt=", rtt);
         Put::At(put_byte(out, e, b'\n'))

@@ -54,15 +54,15 @@ module _ (rep : Report) (p : Puts) (at : ℕ) (after : List ℕ) where
     left = f ∙ sym (ap (λ (x : Puts). x .rest) e);
   }
 
-  -- lines are left
-  pub filled-short : (l : List ℕ) (ls : List (List ℕ)) → p ≡ record { at = at; out = after; rest = l ∷ ls } → leftOf rep ≡ l ∷ ls
-      → FilledIs p (record { at = at; done = false; report = rep }) after
-  filled-short l ls e f = filled-is (l ∷ ls) e f
-
   -- none is left
   pub filled-whole : p ≡ record { at = at; out = after; rest = [] } → leftOf rep ≡ []
       → FilledIs p (record { at = at; done = true; report = rep }) after
   filled-whole e f = filled-is [] e f
+
+-- a line that had no room is the first that is left
+pub line-left : (rep : Report) (l : List ℕ) (ls : List (List ℕ)) (d : List ℕ) (at : ℕ) (r : Put) (after : List ℕ) → PutIs l d at r after → r ≡ Put.Full
+    → leftOf rep ≡ l ∷ ls → FilledIs (puts (l ∷ ls) d at) (record { at = at; done = false; report = rep }) after
+line-left rep l ls d at r after p e f = filled-is rep _ at after (l ∷ ls) (put-stays l ls d at r after p e) f
 
 pub filled-as : {p q : Puts} {r : Filled} {after : List ℕ} → p ≡ q → FilledIs p r after → FilledIs q r after
 filled-as {r = r} {after = after} e w = subst (λ (x : Puts). FilledIs x r after) e w

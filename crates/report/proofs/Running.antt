@@ -22,7 +22,7 @@ use Rattle.report.specs.declared.run.Report.{Report}
 use Rattle.report.specs.declared.run.Filled.{Filled}
 use Rattle.report.specs.Lines.{recordLine, recordLines, flowAt, flowLine, flowLines, flowCount, flowsFrom, endLines, runLines}
 use Rattle.report.specs.Report.{Puts, puts, none, leftAt, leftOf, FilledIs, FromHere, RecordsIs}
-use Rattle.report.proofs.Putting.{put-goes, put-stays, puts-none, puts-then, puts-short, filled-short, filled-whole}
+use Rattle.report.proofs.Putting.{put-goes, put-stays, puts-none, puts-then, puts-short, line-left, filled-whole, filled-as}
 
 -- ---- a tick's record
 
@@ -127,7 +127,7 @@ module _ (n : ℕ) (s : Simulation) (d : List ℕ) (f : Filled) (mid : List ℕ)
       ∙ puts-then (endLines (runOf n s .number) (runOf n s .simulation)) (recordLines n s) d 0 (w .0))
       k
 
-  pub run-pauses : (left : ℕ) → f .report .stage ≡ Stage.Ticks left → FilledIs (puts (runLines n s) d 0) f mid
+  run-pauses : (left : ℕ) → f .report .stage ≡ Stage.Ticks left → FilledIs (puts (runLines n s) d 0) f mid
   unfolding runLines leftOf
   run-pauses left e =
       let m = f .report .simulation in
@@ -148,6 +148,17 @@ module _ (n : ℕ) (s : Simulation) (d : List ℕ) (f : Filled) (mid : List ℕ)
       appended : (a b : List (List ℕ)) → none a ≡ false → none (a ++ b) ≡ false
       appended [] b z = absurd (true≢false z)
       appended (l ∷ ls) b z = refl
+
+  -- the records did not end, so that some of them are left
+  pub run-waits : ((number : ℕ) → f .report .stage ≡ Stage.Stop number → ⊥) → FilledIs (puts (runLines n s) d 0) f mid
+  run-waits other = waits (f .report .stage) refl (h .here)
+    where
+      waits : (x : Stage) → f .report .stage ≡ x → FromHere n s (puts (recordLines n s) d 0 .rest) (f .report .simulation) x → FilledIs (puts (runLines n s) d 0) f mid
+      waits (Stage.Ticks left) e w = run-pauses left e
+      waits (Stage.Stop number) e w = absurd (other number e)
+      waits (Stage.Refused number) e w = absurd w
+      waits (Stage.Flows i) e w = absurd w
+      waits Stage.Done e w = absurd w
 
 -- ---- the flows
 
@@ -184,9 +195,8 @@ module _ (s : Simulation) (i : ℕ) where
       pub flow-full : r ≡ Put.Full → FilledIs p (record { at = at; done = false; report = record { stage = Stage.Flows i; simulation = s } }) after
       unfolding leftOf
       flow-full e =
-          filled-short _ p at after (flowLine s i) (flowsFrom s (i + 1))
-          (sym inv ∙ ap (λ (x : List (List ℕ)). puts x d at) (flows-more h) ∙ put-stays _ (flowsFrom s (i + 1)) d at r after this e)
-          (flows-more h)
+          filled-as (ap (λ (x : List (List ℕ)). puts x d at) (sym (flows-more h)) ∙ inv)
+          (line-left _ (flowLine s i) (flowsFrom s (i + 1)) d at r after this e (flows-more h))
 
     pub flows-done : flowCount s ≤ i → FilledIs p (record { at = at; done = true; report = record { stage = Stage.Done; simulation = s } }) d
     unfolding leftOf

@@ -37,8 +37,11 @@ unfoldable pub leftOf : Report → List (List ℕ)
 leftOf r = leftAt (r .simulation) (r .stage)
 
 -- a build that is refused prints only its number; else the ticks are run
+abbrev pub firstOf : ℕ → ℕ → Stage
+firstOf number ticks = cond (eqb number 0) (Stage.Ticks ticks) (Stage.Refused number)
+
 abbrev pub startOf : Built → ℕ → Report
-startOf b ticks = record { stage = cond (eqb (b .number) 0) (Stage.Ticks ticks) (Stage.Refused (b .number)); simulation = b .simulation }
+startOf b ticks = record { stage = firstOf (b .number) ticks; simulation = b .simulation }
 
 -- the report of what a text is read as: 15 where it is malformed
 unfoldable pub reportOf : ReadDescription → Report
@@ -69,6 +72,10 @@ puts (l ∷ ls) out at =
 abbrev pub none : List (List ℕ) → Bool
 none [] = true
 none (l ∷ ls) = false
+
+-- a buffer filled up to a position, and what is left of the report
+abbrev pub answerOf : ℕ → Bool → Stage → Simulation → Filled
+answerOf at done stage s = record { at = at; done = done; report = record { stage = stage; simulation = s } }
 
 -- so many of the lines as have room are put, and the report has the others left
 pub record FilledIs (p : Puts) (r : Filled) (after : List ℕ) : Type 0 where

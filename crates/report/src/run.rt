@@ -4,7 +4,7 @@ ghost use mathlib.Core.List.{[], _∷_};
 ghost use Rattle.description.specs.Printing.{refusedOf};
 ghost use Rattle.description.specs.declared.ReadDescription.the-variants.{Given};
 ghost use Rattle.report.specs.Lines.{flowCount, flowsFrom, recordLines, endLines, runLines};
-ghost use Rattle.report.specs.Report.{reportOf, ForText, leftOf, puts, FilledIs, AllPut, RecordsIs};
+ghost use Rattle.report.specs.Report.{firstOf, reportOf, ForText, leftOf, puts, answerOf, FilledIs, AllPut, RecordsIs};
 use crate::lines::flow_bytes;
 use crate::lines::record_bytes;
 use crate::lines::stop_bytes;
@@ -38,22 +38,24 @@ pub struct Filled {
     pub report: Report,
 }
 
+// What is printed first: the number of a build that is refused, else the records of the ticks.
+fn first(number: u32, ticks: u32) -> Stage
+    ensures { λ r. ⌜ r ≡ firstOf number ticks ⌝ }
+{
+    if number != 0 {
+        return Stage::Refused(number);
+    }
+    Stage::Ticks(ticks)
+}
+
 // The report of a description.
 fn begun(description: Description) -> Report
     ensures { λ r. ⌜ r ≡ reportOf (Given description) ⌝ }
 {
     let built = builder::build(network_of(description), description.seed);
     let simulation = built.simulation;
-    if built.number != 0 {
-        return Report {
-            stage: Stage::Refused(built.number),
-            simulation,
-        };
-    }
-    Report {
-        stage: Stage::Ticks(description.ticks),
-        simulation,
-    }
+    let stage = first(built.number, description.ticks);
+    Report { stage, simulation }
 }
 
 // The report of a text. A text that is no description is 15.
@@ -70,6 +72,14 @@ pub fn report_of(text: &[u8]) -> Report
             }
         }
     }
+}
+
+// A buffer filled up to a position, and what is left of the report.
+fn answer(at: usize, done: bool, stage: Stage, simulation: Simulation) -> Filled
+    ensures { λ r. ⌜ r ≡ answerOf at done stage simulation ⌝ }
+{
+    let report = Report { stage, simulation };
+    Filled { at, done, report }
 }
 
 // The records of n ticks, as many as have room.
@@ -90,39 +100,15 @@ fn put_records(out: &mut [u8], at: usize, simulation: Simulation, n: u32) -> Fil
                     next = after;
                 }
                 Put::Full => {
-                    let report = Report {
-                        stage: Stage::Ticks(left),
-                        simulation: st,
-                    };
-                    return Filled {
-                        at: next,
-                        done: false,
-                        report,
-                    };
+                    return answer(next, false, Stage::Ticks(left), st);
                 }
             }
         } else {
             let stopped = t.simulation;
-            let report = Report {
-                stage: Stage::Stop(t.number),
-                simulation: stopped,
-            };
-            return Filled {
-                at: next,
-                done: false,
-                report,
-            };
+            return answer(next, false, Stage::Stop(t.number), stopped);
         }
     }
-    let report = Report {
-        stage: Stage::Stop(0),
-        simulation: st,
-    };
-    Filled {
-        at: next,
-        done: false,
-        report,
-    }
+    answer(next, false, Stage::Stop(0), st)
 }
 
 // How many flows are printed.
@@ -153,27 +139,11 @@ fn put_flows(out: &mut [u8], at: usize, first: u32, simulation: Simulation) -> F
                 next = after;
             }
             Put::Full => {
-                let report = Report {
-                    stage: Stage::Flows(i),
-                    simulation,
-                };
-                return Filled {
-                    at: next,
-                    done: false,
-                    report,
-                };
+                return answer(next, false, Stage::Flows(i), simulation);
             }
         }
     }
-    let report = Report {
-        stage: Stage::Done,
-        simulation,
-    };
-    Filled {
-        at: next,
-        done: true,
-        report,
-    }
+    answer(next, true, Stage::Done, simulation)
 }
 
 // The stop line and the flows, as many as have room.
@@ -182,17 +152,7 @@ fn put_end(out: &mut [u8], at: usize, number: u32, simulation: Simulation) -> Fi
 {
     match stop_bytes(out, at, number, simulation) {
         Put::At(next) => put_flows(out, next, 0, simulation),
-        Put::Full => {
-            let report = Report {
-                stage: Stage::Stop(number),
-                simulation,
-            };
-            Filled {
-                at,
-                done: false,
-                report,
-            }
-        }
+        Put::Full => answer(at, false, Stage::Stop(number), simulation),
     }
 }
 
@@ -201,28 +161,8 @@ fn put_refused(out: &mut [u8], number: u32, simulation: Simulation) -> Filled
     ensures { λ r. ⌜ FilledIs (puts (refusedOf number ∷ []) (now (out .entry)) 0) r (now (out .exit)) ⌝ }
 {
     match refused_line(out, 0, number) {
-        Put::At(at) => {
-            let report = Report {
-                stage: Stage::Done,
-                simulation,
-            };
-            Filled {
-                at,
-                done: true,
-                report,
-            }
-        }
-        Put::Full => {
-            let report = Report {
-                stage: Stage::Refused(number),
-                simulation,
-            };
-            Filled {
-                at: 0,
-                done: false,
-                report,
-            }
-        }
+        Put::At(at) => answer(at, true, Stage::Done, simulation),
+        Put::Full => answer(0, false, Stage::Refused(number), simulation),
     }
 }
 
@@ -238,10 +178,7 @@ fn put_run(out: &mut [u8], n: u32, simulation: Simulation) -> Filled
             let stopped = report.simulation;
             put_end(out, f.at, number, stopped)
         }
-        Stage::Ticks(_) => f,
-        Stage::Refused(_) => f,
-        Stage::Flows(_) => f,
-        Stage::Done => f,
+        _ => f,
     }
 }
 

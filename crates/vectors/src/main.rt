@@ -15,27 +15,27 @@ fn main() {
         1,
         b"# xoshiro256++ from the words 1, 2, 3, 4 (Blackman and Vigna's xoshiro256plusplus.c, as listed in the tests of the crate rand_xoshiro)\n",
     );
-    outputs(Rng::from_words(1, 2, 3, 4), 10);
+    outputs(Generator::Xoshiro(Rng::from_words(1, 2, 3, 4)), 10);
     io::write_all(
         1,
         b"# SplitMix64 from 1477776061723855037 (Vigna's splitmix64.c, as listed in the tests of the crate rand_xoshiro)\n",
     );
-    mixed(
-        SplitMix64 {
+    outputs(
+        Generator::SplitMix(SplitMix64 {
             x: 1477776061723855037,
-        },
+        }),
         50,
     );
     io::write_all(
         1,
         b"# SplitMix64 from 1234567 (Rosetta Code, Pseudo-random numbers/Splitmix64)\n",
     );
-    mixed(SplitMix64 { x: 1234567 }, 5);
+    outputs(Generator::SplitMix(SplitMix64 { x: 1234567 }), 5);
     io::write_all(
         1,
         b"# xoshiro256++ from the seed 0 (as listed in the tests of the crate rand, rngs/xoshiro256plusplus.rs)\n",
     );
-    outputs(Rng::from_seed(0), 10);
+    outputs(Generator::Xoshiro(Rng::from_seed(0)), 10);
     io::write_all(
         1,
         b"# Not published: worked out from document 01's formulas by a second program (oracle/draws.py)\n",
@@ -46,25 +46,49 @@ fn main() {
     units();
 }
 
-// The first n outputs, one to a line.
-fn outputs(rng: Rng, n: u32) {
-    let mut at = rng;
-    let mut i: u32 = 0;
-    while i < n {
-        let o = at.next();
-        decimal_line(o.value);
-        at = o.rng;
-        i += 1;
+// A generator of either kind.
+enum Generator {
+    Xoshiro(Rng),
+    SplitMix(SplitMix64),
+}
+
+// An output, and the generator after it.
+struct Drawn {
+    value: u64,
+    after: Generator,
+}
+
+fn next_of(generator: Generator) -> Drawn {
+    match generator {
+        Generator::Xoshiro(rng) => {
+            let o = rng.next();
+            let next = o.rng;
+            let after = Generator::Xoshiro(next);
+            Drawn {
+                value: o.value,
+                after,
+            }
+        }
+        Generator::SplitMix(counter) => {
+            let m = counter.next();
+            let next = m.state;
+            let after = Generator::SplitMix(next);
+            Drawn {
+                value: m.output,
+                after,
+            }
+        }
     }
 }
 
-fn mixed(start: SplitMix64, n: u32) {
-    let mut at = start;
+// The first n outputs, one to a line.
+fn outputs(generator: Generator, n: u32) {
+    let mut at = generator;
     let mut i: u32 = 0;
     while i < n {
-        let m = at.next();
-        decimal_line(m.output);
-        at = m.state;
+        let d = next_of(at);
+        decimal_line(d.value);
+        at = d.after;
         i += 1;
     }
 }

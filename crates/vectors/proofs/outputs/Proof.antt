@@ -13,8 +13,8 @@ abbrev μ-loop : tie.MeasureT-loop
 loop-holds : tie.Need-loop-holds Inv-loop μ-loop
 loop-holds c = search needs
 
-next-requires : tie.Need-next-requires Inv-loop μ-loop
-next-requires c κs = search needs
+next-of-requires : tie.Need-next-of-requires Inv-loop μ-loop
+next-of-requires c κs = search needs
 
 decimal-line-requires : tie.Need-decimal-line-requires Inv-loop μ-loop
 decimal-line-requires c κs = search needs
@@ -38,7 +38,7 @@ outputs-spec =
     Inv-loop
     μ-loop
     loop-holds
-    next-requires
+    next-of-requires
     decimal-line-requires
     add-i
     loop-less

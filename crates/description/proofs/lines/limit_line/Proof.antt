@@ -1,10 +1,12 @@
--- `description::lines::limit_line` meets its contract: a key, then the word or the number, which begin with different bytes.
+-- `description::lines::limit_line` meets its contract: after the key the word or the number, which begin with different bytes.
 -- Assumes nothing.
+use Prim.Native.Nat.{ℕ}
 use borrow.Author.Needs.{needs}
-use Rattle.description.specs.Reading.{wordForm, decimalForm, either}
+use denote.Ref.{now}
+use Rattle.description.specs.Reading.{Form, Absent, wordForm, decimalForm, keyed}
 use Rattle.description.specs.Lines.{most64}
-use Rattle.description.specs.Words.{lf, noneLine}
-use Rattle.description.proofs.Forms.{key-absent, key-open, key-found, either-none, either-first, either-second}
+use Rattle.description.specs.Words.{lf, limitKey, noneLine}
+use Rattle.description.proofs.Forms.{either-none, either-first, either-second}
 use Rattle.description.proofs.Cases.{lf-ends, limit-apart}
 use Rattle.description.proofs.lines.limit_line.Statement.{statement}
 use Rattle.description.proofs.lines.limit_line.Tie as tie
@@ -18,20 +20,14 @@ word-requires c κs = search needs
 enum-known-next : tie.Need-enum-known-next
 enum-known-next c = search needs
 
-slice-aggregate-word-2 : tie.Need-slice-aggregate-word-2
-slice-aggregate-word-2 c = search needs
-
-word-requires-2 : tie.Need-word-requires-2
-word-requires-2 c κs = search needs
-
-enum-known-last : tie.Need-enum-known-last
-enum-known-last c = search needs
-
 enum-told : tie.Need-enum-told
 enum-told c = search needs
 
-ended-requires : tie.Need-ended-requires
-ended-requires c κs = lf-ends
+slice-aggregate-value : tie.Need-slice-aggregate-value
+slice-aggregate-value c = search needs
+
+value-requires : tie.Need-value-requires
+value-requires c κs = lf-ends
 
 enum-known-bits : tie.Need-enum-known-bits
 enum-known-bits c = search needs
@@ -39,20 +35,23 @@ enum-known-bits c = search needs
 enum-told-2 : tie.Need-enum-told-2
 enum-told-2 c = search needs
 
-enum-told-3 : tie.Need-enum-told-3
-enum-told-3 c = search needs
+abbrev none : Form (Unit {0})
+none = wordForm noneLine
+
+abbrev bits : Form ℕ
+bits = decimalForm most64 lf
+
+no-none : (p : tie.After-enum-told) → let a = p .before .before .before .before .before .args in Absent (keyed limitKey none) (now (a .text)) (a .at)
+no-none p = rw (p .enum-told .given .1) at (p .before .before .word .ensures)
 
 returns : tie.Need-returns
-returns c = key-found (rw (c .before .before .before .before .before .before .next .given .1) at (c .before .before .before .before .before .before .before .before .word .ensures)) (either-first limit-apart (rw (c .before .last .given .1) at (c .before .before .before .word2 .ensures)))
+returns c = either-first limitKey none bits limit-apart (rw (c .before .next .given .1) at (c .before .before .before .word .ensures))
 
 returns-2 : tie.Need-returns-2
-returns-2 c = key-found (rw (c .before .before .before .before .before .before .before .before .before .next .given .1) at (c .before .before .before .before .before .before .before .before .before .before .before .word .ensures)) (either-second (rw (c .before .before .before .before .enum-told .given .1) at (c .before .before .before .before .before .before .word2 .ensures)) (rw (c .before .bits .given .1) at (c .before .before .before .ended .ensures)))
+returns-2 c = either-second limitKey none bits (no-none (c .before .before .before .before .before)) (rw (c .before .bits .given .1) at (c .before .before .before .value .ensures))
 
 returns-3 : tie.Need-returns-3
-returns-3 c = key-open (rw (c .before .before .before .before .before .before .before .before .next .given .1) at (c .before .before .before .before .before .before .before .before .before .before .word .ensures)) (either-none (rw (c .before .before .before .enum-told .given .1) at (c .before .before .before .before .before .word2 .ensures)) (rw (c .enum-told2 .given .1) at (c .before .before .ended .ensures)))
-
-returns-4 : tie.Need-returns-4
-returns-4 c = key-absent (either (wordForm noneLine) (decimalForm most64 lf)) (rw (c .enum-told3 .given .1) at (c .before .before .word .ensures))
+returns-3 c = either-none limitKey none bits (no-none (c .before .before .before .before)) (rw (c .enum-told2 .given .1) at (c .before .before .value .ensures))
 
 pub limit-line-spec : {M : Type 1} → statement M
 limit-line-spec =
@@ -61,15 +60,11 @@ limit-line-spec =
     slice-aggregate-word
     word-requires
     enum-known-next
-    slice-aggregate-word-2
-    word-requires-2
-    enum-known-last
     enum-told
-    ended-requires
+    slice-aggregate-value
+    value-requires
     enum-known-bits
     enum-told-2
-    enum-told-3
     returns
     returns-2
-    returns-3
-    returns-4)
+    returns-3)

@@ -1,52 +1,47 @@
 -- `description::print::record_line` meets its contract: with room for 128 bytes the parts are put one after the other, and never need more; without it nothing is put.
 -- Assumes nothing.
-use Prim.Native.Nat.{_+_}
-use mathlib.Core.Path.{sym, _∙_}
 use native.Mathlib.Omega.{arith}
-use lib.ListN.{length}
-use denote.Ref.{now}
-use borrow.Author.Tests.{leb-true}
 use borrow.Author.Needs.{needs}
 use Rattle.description.specs.Printing.{recordOf}
-use Rattle.description.proofs.Buffer.{wrote-then, put-done, put-full}
+use Rattle.description.proofs.Buffer.{put-full, put-five}
 use Rattle.description.proofs.print.record_line.Statement.{statement}
 use Rattle.description.proofs.print.record_line.Tie as tie
 
-roomy-requires : tie.Need-roomy-requires
-roomy-requires c κs = search needs
+left-requires : tie.Need-left-requires
+left-requires c κs = search needs
 
 slice-aggregate-put-hex : tie.Need-slice-aggregate-put-hex
 slice-aggregate-put-hex c = search needs
 
 put-hex-requires : tie.Need-put-hex-requires
-put-hex-requires c κs = omega (arith, leb-true (c .before .before .before .before .before .args .at + 128) (length (now (c .before .before .before .before .before .args .out))) (sym (c .before .before .before .roomy .ensures) ∙ c .before .before .if1 .taken))
+put-hex-requires c κs = search needs
 
-slice-aggregate-put-part : tie.Need-slice-aggregate-put-part
-slice-aggregate-put-part c = search needs
+slice-aggregate-put-decimal : tie.Need-slice-aggregate-put-decimal
+slice-aggregate-put-decimal c = search needs
 
-put-part-requires : tie.Need-put-part-requires
-put-part-requires c κs = omega (arith, leb-true (c .before .before .before .before .before .before .before .before .before .before .args .at + 128) (length (now (c .before .before .before .before .before .before .before .before .before .before .args .out))) (sym (c .before .before .before .before .before .before .before .before .roomy .ensures) ∙ c .before .before .before .before .before .before .before .if1 .taken), c .before .before .before .before .put-hex .ensures .place, c .before .before .before .before .put-hex .ensures .small, c .before .before .before .before .put-hex .kept .0)
+put-decimal-requires : tie.Need-put-decimal-requires
+put-decimal-requires c κs = search needs
 
 slice-aggregate-put-letter : tie.Need-slice-aggregate-put-letter
 slice-aggregate-put-letter c = search needs
 
 put-letter-requires : tie.Need-put-letter-requires
-put-letter-requires c κs = omega (arith, leb-true (c .before .before .before .before .before .before .before .before .before .before .before .before .before .before .before .args .at + 128) (length (now (c .before .before .before .before .before .before .before .before .before .before .before .before .before .before .before .args .out))) (sym (c .before .before .before .before .before .before .before .before .before .before .before .before .before .roomy .ensures) ∙ c .before .before .before .before .before .before .before .before .before .before .before .before .if1 .taken), c .before .before .before .before .before .before .before .before .before .put-hex .ensures .place, c .before .before .before .before .before .before .before .before .before .put-hex .ensures .small, c .before .before .before .before .before .before .before .before .before .put-hex .kept .0, c .before .before .before .before .put-part .ensures .place, c .before .before .before .before .put-part .ensures .small, c .before .before .before .before .put-part .kept .0)
+put-letter-requires c κs = search needs
 
 slice-aggregate-put-packet : tie.Need-slice-aggregate-put-packet
 slice-aggregate-put-packet c = search needs
 
 put-packet-requires : tie.Need-put-packet-requires
-put-packet-requires c κs = omega (arith, leb-true (c .before .before .before .before .before .before .before .before .before .before .before .before .before .before .before .before .before .before .before .before .args .at + 128) (length (now (c .before .before .before .before .before .before .before .before .before .before .before .before .before .before .before .before .before .before .before .before .args .out))) (sym (c .before .before .before .before .before .before .before .before .before .before .before .before .before .before .before .before .before .before .roomy .ensures) ∙ c .before .before .before .before .before .before .before .before .before .before .before .before .before .before .before .before .before .if1 .taken), c .before .before .before .before .before .before .before .before .before .before .before .before .before .before .put-hex .ensures .place, c .before .before .before .before .before .before .before .before .before .before .before .before .before .before .put-hex .ensures .small, c .before .before .before .before .before .before .before .before .before .before .before .before .before .before .put-hex .kept .0, c .before .before .before .before .before .before .before .before .before .put-part .ensures .place, c .before .before .before .before .before .before .before .before .before .put-part .ensures .small, c .before .before .before .before .before .before .before .before .before .put-part .kept .0, c .before .before .before .before .put-letter .ensures .place, c .before .before .before .before .put-letter .ensures .small, c .before .before .before .before .put-letter .kept .0)
+put-packet-requires c κs = search needs
 
 slice-aggregate-put-packet-2 : tie.Need-slice-aggregate-put-packet-2
 slice-aggregate-put-packet-2 c = search needs
 
 put-packet-requires-2 : tie.Need-put-packet-requires-2
-put-packet-requires-2 c κs = omega (arith, leb-true (c .before .before .before .before .before .before .before .before .before .before .before .before .before .before .before .before .before .before .before .before .before .before .before .before .before .args .at + 128) (length (now (c .before .before .before .before .before .before .before .before .before .before .before .before .before .before .before .before .before .before .before .before .before .before .before .before .before .args .out))) (sym (c .before .before .before .before .before .before .before .before .before .before .before .before .before .before .before .before .before .before .before .before .before .before .before .roomy .ensures) ∙ c .before .before .before .before .before .before .before .before .before .before .before .before .before .before .before .before .before .before .before .before .before .before .if1 .taken), c .before .before .before .before .before .before .before .before .before .before .before .before .before .before .before .before .before .before .before .put-hex .ensures .place, c .before .before .before .before .before .before .before .before .before .before .before .before .before .before .before .before .before .before .before .put-hex .ensures .small, c .before .before .before .before .before .before .before .before .before .before .before .before .before .before .before .before .before .before .before .put-hex .kept .0, c .before .before .before .before .before .before .before .before .before .before .before .before .before .before .put-part .ensures .place, c .before .before .before .before .before .before .before .before .before .before .before .before .before .before .put-part .ensures .small, c .before .before .before .before .before .before .before .before .before .before .before .before .before .before .put-part .kept .0, c .before .before .before .before .before .before .before .before .before .put-letter .ensures .place, c .before .before .before .before .before .before .before .before .before .put-letter .ensures .small, c .before .before .before .before .before .before .before .before .before .put-letter .kept .0, c .before .before .before .before .put-packet .ensures .place, c .before .before .before .before .put-packet .ensures .small, c .before .before .before .before .put-packet .kept .0)
+put-packet-requires-2 c κs = search needs
 
 put-byte-requires : tie.Need-put-byte-requires
-put-byte-requires c κs = omega (arith, leb-true (c .before .before .before .before .before .before .before .before .before .before .before .before .before .before .before .before .before .before .before .before .before .before .before .before .before .before .before .before .before .args .at + 128) (length (now (c .before .before .before .before .before .before .before .before .before .before .before .before .before .before .before .before .before .before .before .before .before .before .before .before .before .before .before .before .before .args .out))) (sym (c .before .before .before .before .before .before .before .before .before .before .before .before .before .before .before .before .before .before .before .before .before .before .before .before .before .before .before .roomy .ensures) ∙ c .before .before .before .before .before .before .before .before .before .before .before .before .before .before .before .before .before .before .before .before .before .before .before .before .before .before .if1 .taken), c .before .before .before .before .before .before .before .before .before .before .before .before .before .before .before .before .before .before .before .before .before .before .before .put-hex .ensures .place, c .before .before .before .before .before .before .before .before .before .before .before .before .before .before .before .before .before .before .before .before .before .before .before .put-hex .ensures .small, c .before .before .before .before .before .before .before .before .before .before .before .before .before .before .before .before .before .before .before .before .before .before .before .put-hex .kept .0, c .before .before .before .before .before .before .before .before .before .before .before .before .before .before .before .before .before .before .put-part .ensures .place, c .before .before .before .before .before .before .before .before .before .before .before .before .before .before .before .before .before .before .put-part .ensures .small, c .before .before .before .before .before .before .before .before .before .before .before .before .before .before .before .before .before .before .put-part .kept .0, c .before .before .before .before .before .before .before .before .before .before .before .before .before .put-letter .ensures .place, c .before .before .before .before .before .before .before .before .before .before .before .before .before .put-letter .ensures .small, c .before .before .before .before .before .before .before .before .before .before .before .before .before .put-letter .kept .0, c .before .before .before .before .before .before .before .before .put-packet .ensures .place, c .before .before .before .before .before .before .before .before .put-packet .ensures .small, c .before .before .before .before .before .before .before .before .put-packet .kept .0, c .before .before .before .put-packet2 .ensures .place, c .before .before .before .put-packet2 .ensures .small, c .before .before .before .put-packet2 .kept .0)
+put-byte-requires c κs = search needs
 
 same-length : tie.Need-same-length
 same-length c = search needs
@@ -54,26 +49,26 @@ same-length c = search needs
 returns : tie.Need-returns
 unfolding recordOf
 returns c =
-    let a = c .before .before .before .before .before .before .before .before .before .before .before .before .before .before .before .before .before .before .before .before .before .before .before .before .before .before .before .before .before .before .before .before .args in
-    let room = leb-true (c .before .before .before .before .before .before .before .before .before .before .before .before .before .before .before .before .before .before .before .before .before .before .before .before .before .before .before .before .before .before .before .before .args .at + 128) (length (now (c .before .before .before .before .before .before .before .before .before .before .before .before .before .before .before .before .before .before .before .before .before .before .before .before .before .before .before .before .before .before .before .before .args .out))) (sym (c .before .before .before .before .before .before .before .before .before .before .before .before .before .before .before .before .before .before .before .before .before .before .before .before .before .before .before .before .before .before .roomy .ensures) ∙ c .before .before .before .before .before .before .before .before .before .before .before .before .before .before .before .before .before .before .before .before .before .before .before .before .before .before .before .before .before .if1 .taken) in
-    put-done (recordOf (a .time) (a .part) (a .mark) (a .packet) (a .line)) (now (a .out)) (a .at) (sym (c .before .before .before .before .before .before .before .before .before .before .before .before .before .before .before .before .before .before .before .before .before .before .before .before .before .before .before .before .before .before .roomy .ensures) ∙ c .before .before .before .before .before .before .before .before .before .before .before .before .before .before .before .before .before .before .before .before .before .before .before .before .before .before .before .before .before .if1 .taken)
-    (wrote-then (wrote-then (wrote-then (wrote-then (wrote-then (c .before .before .before .before .before .before .before .before .before .before .before .before .before .before .before .before .before .before .before .before .before .before .before .before .before .before .put-hex .ensures) (c .before .before .before .before .before .before .before .before .before .before .before .before .before .before .before .before .before .before .before .before .before .put-part .ensures) (omega (arith, room))) (c .before .before .before .before .before .before .before .before .before .before .before .before .before .before .before .before .put-letter .ensures) (omega (arith, room))) (c .before .before .before .before .before .before .before .before .before .before .before .put-packet .ensures) (omega (arith, room))) (c .before .before .before .before .before .before .put-packet2 .ensures) (omega (arith, room))) (c .before .before .put-byte .ensures) (omega (arith, room)))
+    let end = c .before .before in
+    let line = end .before .before .before .before in
+    let packet = line .before .before .before .before .before in
+    let mark = packet .before .before .before .before .before in
+    let part = mark .before .before .before .before .before in
+    let time = part .before .before .before .before .before in
+    put-five (omega arith) (omega arith) (time .put-hex .ensures) (part .put-decimal .ensures) (mark .put-letter .ensures) (packet .put-packet .ensures) (line .put-packet2 .ensures) (end .put-byte .ensures)
 
 returns-2 : tie.Need-returns-2
-unfolding recordOf
-returns-2 c =
-    let a = c .before .before .before .args in
-    put-full (recordOf (a .time) (a .part) (a .mark) (a .packet) (a .line)) (now (a .out)) (a .at) (sym (c .before .roomy .ensures) ∙ c .if1 .left)
+returns-2 c = put-full _ _ _ (omega arith)
 
 pub record-line-spec : {M : Type 1} → statement M
 record-line-spec =
     tie.close
     (tie.spec
-    roomy-requires
+    left-requires
     slice-aggregate-put-hex
     put-hex-requires
-    slice-aggregate-put-part
-    put-part-requires
+    slice-aggregate-put-decimal
+    put-decimal-requires
     slice-aggregate-put-letter
     put-letter-requires
     slice-aggregate-put-packet

@@ -2,7 +2,7 @@
 use mathlib.Core.Path.{refl}
 use Rattle.report.specs.Lines.{endLines}
 use Rattle.report.specs.Report.{leftOf}
-use Rattle.report.proofs.Putting.{put-goes, put-stays, filled-short, filled-as}
+use Rattle.report.proofs.Putting.{put-goes, line-left, filled-as}
 use borrow.Author.Needs.{needs}
 use Rattle.report.proofs.run.put_end.Statement.{statement}
 use Rattle.report.proofs.run.put_end.Tie as tie
@@ -19,6 +19,9 @@ put-flows-requires c κs = search needs
 enum-told : tie.Need-enum-told
 enum-told c = search needs
 
+answer-requires : tie.Need-answer-requires
+answer-requires c κs = search needs
+
 same-length : tie.Need-same-length
 same-length c = search needs
 
@@ -31,7 +34,7 @@ same-length-2 c = search needs
 
 returns-2 : tie.Need-returns-2
 unfolding endLines leftOf
-returns-2 c = filled-short _ _ _ _ _ _ (put-stays _ _ _ _ _ _ (c .before .before .before .before .stop-bytes .ensures) (c .enum-told .given .1)) refl
+returns-2 c = rw (c .answer .ensures) (line-left _ _ _ _ _ _ _ (c .before .before .before .before .before .stop-bytes .ensures) (c .before .enum-told .given .1) refl)
 
 pub put-end-spec : {M : Type 1} → statement M
 put-end-spec =
@@ -41,6 +44,7 @@ put-end-spec =
     enum-known-next
     put-flows-requires
     enum-told
+    answer-requires
     same-length
     returns
     same-length-2

@@ -29,17 +29,25 @@ loop-holds c = (refl, refl)
 cast-k : tie.Need-cast-k Inv-loop μ-loop
 cast-k c = search needs
 
+-- the flow is printed, and there are at most 16
+module _ (p : tie.In-loop Inv-loop μ-loop) where
+  below : p .before .loop .i < flowCount (p .before .before .before .before .before .args .t4)
+  below = omega (arith, p .loop-test .taken, p .before .before .before .flow-count .ensures)
+
+  low : p .before .loop .i < 16
+  low = omega (arith, below, flow-count-le (p .before .before .before .before .before .args .t4))
+
 mul-sender : tie.Need-mul-sender Inv-loop μ-loop
-mul-sender c = omega (arith, c .loop-test .taken, c .before .before .before .flow-count .ensures, flow-count-le (c .before .before .before .before .before .args .t4))
+mul-sender c = omega (arith, low c)
 
 element-copy-out-sender : tie.Need-element-copy-out-sender Inv-loop μ-loop
-element-copy-out-sender c = omega (arith, c .loop-test .taken, c .before .before .before .flow-count .ensures, flow-count-le (c .before .before .before .before .before .args .t4))
+element-copy-out-sender c = omega (arith, low c)
 
 mul-meter : tie.Need-mul-meter Inv-loop μ-loop
-mul-meter c = omega (arith, c .before .loop-test .taken, c .before .before .before .before .flow-count .ensures, flow-count-le (c .before .before .before .before .before .before .args .t4))
+mul-meter c = omega (arith, low (c .before))
 
 element-copy-out-meter : tie.Need-element-copy-out-meter Inv-loop μ-loop
-element-copy-out-meter c = omega (arith, c .before .loop-test .taken, c .before .before .before .before .flow-count .ensures, flow-count-le (c .before .before .before .before .before .before .args .t4))
+element-copy-out-meter c = omega (arith, low (c .before))
 
 flow-bytes-requires : tie.Need-flow-bytes-requires Inv-loop μ-loop
 flow-bytes-requires c κs = search needs
@@ -56,34 +64,36 @@ loop-less c = omega arith
 loop-again : tie.Need-loop-again Inv-loop μ-loop
 loop-again c =
     let w = c .before .before .before .before .before .flow-bytes in
-    let l = c .before .before .before .before .before .before .before .before .before .before .loop in
-    let t = c .before .before .before .before .before .before .before .before .before .before .before .time in
-    let k = c .before .before .before .before .before .before .before .before .before .before .before .before .flow-count in
-    let h : l .i < flowCount (c .before .before .before .before .before .before .before .before .before .before .before .before .before .before .args .t4) =
-    omega (arith, c .before .before .before .before .before .before .before .before .before .loop-test .taken, k .ensures) in
-    (flow-goes _ (l .i) _ _ _ (l .inv .0) _ (t .ensures) _ _ (w .ensures) h _ (c .before .after .given .1), w .kept .0 ∙ l .inv .1)
+    let p = c .before .before .before .before .before .before .before .before .before in
+    let l = p .before .loop in
+    (flow-goes _ (l .i) _ _ _ (l .inv .0) _ (p .before .before .time .ensures) _ _ (w .ensures) (below p) _ (c .before .after .given .1), w .kept .0 ∙ l .inv .1)
 
 enum-told : tie.Need-enum-told Inv-loop μ-loop
 enum-told c = search needs
 
+answer-requires : tie.Need-answer-requires Inv-loop μ-loop
+answer-requires c κs = search needs
+
 same-length : tie.Need-same-length Inv-loop μ-loop
-same-length c = c .before .before .before .before .flow-bytes .kept .0 ∙ c .before .before .before .before .before .before .before .before .before .loop .inv .1
+same-length c = c .before .before .before .before .before .flow-bytes .kept .0 ∙ c .before .before .before .before .before .before .before .before .before .before .loop .inv .1
 
 returns : tie.Need-returns Inv-loop μ-loop
 returns c =
-    let w = c .before .before .before .before .flow-bytes in
-    let l = c .before .before .before .before .before .before .before .before .before .loop in
-    let t = c .before .before .before .before .before .before .before .before .before .before .time in
-    let k = c .before .before .before .before .before .before .before .before .before .before .before .flow-count in
-    let h : l .i < flowCount (c .before .before .before .before .before .before .before .before .before .before .before .before .before .args .t4) =
-    omega (arith, c .before .before .before .before .before .before .before .before .loop-test .taken, k .ensures) in
-    flow-full _ (l .i) _ _ _ (l .inv .0) _ (t .ensures) _ _ (w .ensures) h (c .enum-told .given .1)
+    let w = c .before .before .before .before .before .flow-bytes in
+    let p = c .before .before .before .before .before .before .before .before .before in
+    let l = p .before .loop in
+    rw (c .answer .ensures) (flow-full _ (l .i) _ _ _ (l .inv .0) _ (p .before .before .time .ensures) _ _ (w .ensures) (below p) (c .before .enum-told .given .1))
+
+answer-requires-2 : tie.Need-answer-requires-2 Inv-loop μ-loop
+answer-requires-2 c κs = search needs
 
 same-length-2 : tie.Need-same-length-2 Inv-loop μ-loop
-same-length-2 c = c .before .loop .inv .1
+same-length-2 c = c .before .before .loop .inv .1
 
 returns-2 : tie.Need-returns-2 Inv-loop μ-loop
-returns-2 c = flows-done _ (c .before .loop .i) _ _ _ (c .before .loop .inv .0) (omega (arith, c .loop-test .left, c .before .before .before .flow-count .ensures))
+returns-2 c =
+    let l = c .before .before .loop in
+    rw (c .answer2 .ensures) (flows-done _ (l .i) _ _ _ (l .inv .0) (omega (arith, c .before .loop-test .left, c .before .before .before .before .flow-count .ensures)))
 
 pub put-flows-spec : {M : Type 1} → statement M
 put-flows-spec =
@@ -105,7 +115,9 @@ put-flows-spec =
     loop-less
     loop-again
     enum-told
+    answer-requires
     same-length
     returns
+    answer-requires-2
     same-length-2
     returns-2)

@@ -43,28 +43,39 @@ loop-again c =
 enum-told : tie.Need-enum-told Inv-loop μ-loop
 enum-told c = search needs
 
+answer-requires : tie.Need-answer-requires Inv-loop μ-loop
+answer-requires c κs = search needs
+
 same-length : tie.Need-same-length Inv-loop μ-loop
-same-length c = c .before .before .before .before .record-bytes .kept .0 ∙ c .before .before .before .before .before .before .before .before .before .before .loop .inv .1
+same-length c = c .before .before .before .before .before .record-bytes .kept .0 ∙ c .before .before .before .before .before .before .before .before .before .before .before .loop .inv .1
 
 returns : tie.Need-returns Inv-loop μ-loop
 returns c =
-    let l = c .before .before .before .before .before .before .before .before .before .before .loop in
-    let t = c .before .before .before .before .before .before .before .before .tick in
-    pauses _ _ _ _ _ _ _ (l .inv .0) (t .result) (t .ensures .0) (c .before .before .before .before .before .before .before .before .before .loop-test .taken) (c .before .before .before .before .before .before .before .if1 .taken) _ _ (c .before .before .before .before .record-bytes .ensures) (c .enum-told .given .1)
+    let w = c .before .before .before .before .before .record-bytes in
+    let t = c .before .before .before .before .before .before .before .before .before in
+    let l = t .before .before .loop in
+    rw (c .answer .ensures) (pauses _ _ _ _ _ _ _ (l .inv .0) (t .tick .result) (t .tick .ensures .0) (t .before .loop-test .taken) (c .before .before .before .before .before .before .before .before .if1 .taken) _ _ (w .ensures) (c .before .enum-told .given .1))
+
+answer-requires-2 : tie.Need-answer-requires-2 Inv-loop μ-loop
+answer-requires-2 c κs = search needs
 
 same-length-2 : tie.Need-same-length-2 Inv-loop μ-loop
-same-length-2 c = c .before .before .before .before .loop .inv .1
+same-length-2 c = c .before .before .before .before .before .loop .inv .1
 
 returns-2 : tie.Need-returns-2 Inv-loop μ-loop
 returns-2 c =
-    let t = c .before .before .tick in
-    stops _ _ _ _ _ _ _ (c .before .before .before .before .loop .inv .0) (t .result) (t .ensures .0) (c .before .before .before .loop-test .taken) (c .before .if1 .left)
+    let t = c .before .before .before in
+    let l = t .before .before .loop in
+    rw (c .answer2 .ensures) (stops _ _ _ _ _ _ _ (l .inv .0) (t .tick .result) (t .tick .ensures .0) (t .before .loop-test .taken) (c .before .before .if1 .left))
+
+answer-requires-3 : tie.Need-answer-requires-3 Inv-loop μ-loop
+answer-requires-3 c κs = search needs
 
 same-length-3 : tie.Need-same-length-3 Inv-loop μ-loop
-same-length-3 c = c .before .loop .inv .1
+same-length-3 c = c .before .before .loop .inv .1
 
 returns-3 : tie.Need-returns-3 Inv-loop μ-loop
-returns-3 c = ends _ _ _ _ _ _ _ (c .before .loop .inv .0) (omega (arith, c .loop-test .left))
+returns-3 c = rw (c .answer3 .ensures) (ends _ _ _ _ _ _ _ (c .before .before .loop .inv .0) (omega (arith, c .before .loop-test .left)))
 
 pub put-records-spec : {M : Type 1} → statement M
 put-records-spec =
@@ -80,9 +91,12 @@ put-records-spec =
     loop-less
     loop-again
     enum-told
+    answer-requires
     same-length
     returns
+    answer-requires-2
     same-length-2
     returns-2
+    answer-requires-3
     same-length-3
     returns-3)

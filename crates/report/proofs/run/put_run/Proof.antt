@@ -1,7 +1,11 @@
 -- The records, and the end where all of them had room. Assumes nothing.
+use mathlib.Core.List.{[], _∷_}
 use mathlib.Core.Path.{subst}
-use Rattle.report.specs.Report.{FromHere}
-use Rattle.report.proofs.Running.{run-ends, run-pauses}
+use denote.Enum.Declared.{tagOf}
+use types.Run.{OneOf, miss}
+use Rattle.report.specs.declared.run.Stage.{Stage}
+use Rattle.report.proofs.run.Stage.{the-type}
+use Rattle.report.proofs.Running.{run-ends, run-waits}
 use borrow.Author.Needs.{needs}
 use Rattle.report.proofs.run.put_run.Statement.{statement}
 use Rattle.report.proofs.run.put_run.Tie as tie
@@ -15,18 +19,6 @@ enum-known-stage c = search needs
 put-end-requires : tie.Need-put-end-requires
 put-end-requires c κs = search needs
 
-enum-told : tie.Need-enum-told
-enum-told c = search needs
-
-enum-told-2 : tie.Need-enum-told-2
-enum-told-2 c = search needs
-
-enum-told-3 : tie.Need-enum-told-3
-enum-told-3 c = search needs
-
-enum-told-4 : tie.Need-enum-told-4
-enum-told-4 c = search needs
-
 same-length : tie.Need-same-length
 same-length c = search needs
 
@@ -37,25 +29,9 @@ same-length-2 : tie.Need-same-length-2
 same-length-2 c = search needs
 
 returns-2 : tie.Need-returns-2
-returns-2 c = run-pauses _ _ _ _ _ (c .before .before .before .before .before .put-records .ensures) _ (c .enum-told .given .1)
-
-same-length-3 : tie.Need-same-length-3
-same-length-3 c = search needs
-
-returns-3 : tie.Need-returns-3
-returns-3 c = absurd (subst (FromHere _ _ _ _) (c .enum-told2 .given .1) (c .before .before .before .before .before .put-records .ensures .here))
-
-same-length-4 : tie.Need-same-length-4
-same-length-4 c = search needs
-
-returns-4 : tie.Need-returns-4
-returns-4 c = absurd (subst (FromHere _ _ _ _) (c .enum-told3 .given .1) (c .before .before .before .before .before .put-records .ensures .here))
-
-same-length-5 : tie.Need-same-length-5
-same-length-5 c = search needs
-
-returns-5 : tie.Need-returns-5
-returns-5 c = absurd (subst (FromHere _ _ _ _) (c .enum-told4 .given .1) (c .before .before .before .before .before .put-records .ensures .here))
+returns-2 c =
+    run-waits _ _ _ _ _ (c .before .before .before .before .put-records .ensures)
+    (λ number e. miss (0 ∷ 1 ∷ 3 ∷ 4 ∷ []) 2 tt (subst (λ (x : Stage). OneOf (0 ∷ 1 ∷ 3 ∷ 4 ∷ []) (tagOf the-type x)) e (c .match .keys2)))
 
 pub put-run-spec : {M : Type 1} → statement M
 put-run-spec =
@@ -64,17 +40,7 @@ put-run-spec =
     put-records-requires
     enum-known-stage
     put-end-requires
-    enum-told
-    enum-told-2
-    enum-told-3
-    enum-told-4
     same-length
     returns
     same-length-2
-    returns-2
-    same-length-3
-    returns-3
-    same-length-4
-    returns-4
-    same-length-5
-    returns-5)
+    returns-2)
