@@ -1,10 +1,9 @@
 -- A report's lines by its stage, and a text's. Assumes nothing.
 use Prim.Native.Nat.{ℕ}
-use mathlib.Core.Bool.{Bool, true, false, cond, true≢false}
+use mathlib.Core.Bool.{true, false}
 use mathlib.Core.List.{List, []}
 use mathlib.Core.Path.{_≡_, refl, sym, ap, _∙_, subst}
 use native.Mathlib.Omega.{arith}
-use Rattle.description.specs.declared.Description.{Description}
 use Rattle.description.specs.declared.ReadDescription.{ReadDescription}
 use Rattle.description.specs.declared.ReadDescription.the-variants.{Given, Malformed}
 use Rattle.description.specs.declared.print.Put.{Put}
@@ -14,7 +13,7 @@ use Rattle.report.specs.declared.run.Stage.{Stage}
 use Rattle.report.specs.declared.run.Stage.the-variants as Stage
 use Rattle.report.specs.declared.run.Report.{Report}
 use Rattle.report.specs.declared.run.Filled.{Filled}
-use Rattle.report.specs.Report.{Puts, puts, none, leftAt, leftOf, reportOf, ForText, FilledIs, AllPut}
+use Rattle.report.specs.Report.{puts, leftAt, leftOf, ForText, FilledIs, AllPut}
 use Rattle.report.proofs.Putting.{puts-none, filled-whole}
 
 -- what holds of the answer holds of what the text is read as

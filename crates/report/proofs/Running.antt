@@ -1,5 +1,5 @@
 -- The records of a run and the flows, line by line. Assumes nothing.
-use Prim.Native.Nat.{ℕ, zero, suc, _+_, _-_, _≤_, _<_}
+use Prim.Native.Nat.{ℕ, suc, _+_, _-_, _≤_, _<_}
 use mathlib.Core.Bool.{Bool, true, false, cond, true≢false}
 use mathlib.Core.List.{List, [], _∷_, _++_}
 use mathlib.Core.Path.{_≡_, refl, sym, ap, _∙_, subst}
@@ -18,7 +18,6 @@ use Rattle.description.specs.declared.print.Put.the-variants as Put
 use Rattle.description.specs.Printing.{PutIs}
 use Rattle.report.specs.declared.run.Stage.{Stage}
 use Rattle.report.specs.declared.run.Stage.the-variants as Stage
-use Rattle.report.specs.declared.run.Report.{Report}
 use Rattle.report.specs.declared.run.Filled.{Filled}
 use Rattle.report.specs.Lines.{recordLine, recordLines, flowAt, flowLine, flowLines, flowCount, flowsFrom, endLines, runLines}
 use Rattle.report.specs.Report.{Puts, puts, none, leftAt, leftOf, FilledIs, FromHere, RecordsIs}
