@@ -25,7 +25,7 @@ pub struct Made {
 }
 
 // A link on which nothing waits or moves, and that may start at any time.
-pub fn new_line(rng: Rng) -> Line
+pub(crate) fn new_line(rng: Rng) -> Line
     ensures { λ r. ⌜ r ≡ newLine rng ⌝ }
 {
     let earliest_transmit = Time(TimeSpan(-1.7976931348623157e308));
@@ -42,7 +42,7 @@ pub fn new_line(rng: Rng) -> Line
 }
 
 // A sender that is off and has sent nothing.
-pub fn new_sender(rng: Rng) -> LossySender
+pub(crate) fn new_sender(rng: Rng) -> LossySender
     ensures { λ r. ⌜ r ≡ newSender rng ⌝ }
 {
     LossySender {
@@ -53,14 +53,14 @@ pub fn new_sender(rng: Rng) -> LossySender
 }
 
 // The generator of four zero words, for places where no part stands.
-pub fn zero_words() -> Rng
+pub(crate) fn zero_words() -> Rng
     ensures { λ r. ⌜ r ≡ zeroWords ⌝ }
 {
     Rng::from_words(0, 0, 0, 0)
 }
 
 // What a place holds where no packet waits.
-pub fn blank_packet() -> Packet
+pub(crate) fn blank_packet() -> Packet
     ensures { λ r. ⌜ r ≡ blankPacket ⌝ }
 {
     let sent_time = Time(TimeSpan(0.0));
@@ -72,7 +72,7 @@ pub fn blank_packet() -> Packet
 }
 
 // What a place holds where no packet is on the line.
-pub fn blank_transit() -> Transit
+pub(crate) fn blank_transit() -> Transit
     ensures { λ r. ⌜ r ≡ blankTransit ⌝ }
 {
     let packet = blank_packet();
@@ -81,7 +81,7 @@ pub fn blank_transit() -> Transit
 }
 
 // What a place holds where there is no toggler.
-pub fn blank_toggler() -> Toggler
+pub(crate) fn blank_toggler() -> Toggler
     ensures { λ r. ⌜ r ≡ blankToggler ⌝ }
 {
     let next_toggle = Time(TimeSpan(0.0));
@@ -94,7 +94,7 @@ pub fn blank_toggler() -> Toggler
 }
 
 // The places of 16 senders and togglers before any is made.
-pub fn no_parts() -> Made
+pub(crate) fn no_parts() -> Made
     ensures { λ r. ⌜ toldParts r ≡ noParts ⌝ }
 {
     let sender = new_sender(zero_words());
@@ -112,7 +112,7 @@ pub fn no_parts() -> Made
 // toggler with its first toggle drawn from the off distribution.
 //
 // A helper: the caller shows that there are at most 16.
-pub fn make(n: usize, root: Rng, off: ContinuousDistribution) -> Made
+pub(crate) fn make(n: usize, root: Rng, off: ContinuousDistribution) -> Made
     requires { ⌜ n ≤ 16 ⌝ }
     ensures { λ r. ⌜ toldParts r ≡ populate n 0 root off noParts ⌝ }
 {

@@ -12,7 +12,7 @@ use turns::head_of;
 use turns::place_after;
 
 // The simulation with its least time picked and removed, as its clock and next part.
-pub fn pick_next(simulation: Simulation) -> Simulation
+pub(crate) fn pick_next(simulation: Simulation) -> Simulation
     ensures { λ r. ⌜ r ≡ picked simulation ⌝ }
 {
     let queue = simulation.queue;
@@ -63,7 +63,7 @@ fn time_at(
 // The simulation with each part queued at its own next time.
 //
 // A helper: the caller shows that the ring of the line is in range.
-pub fn queue_all(simulation: Simulation) -> Simulation
+pub(crate) fn queue_all(simulation: Simulation) -> Simulation
     requires { ⌜ simulation .line .«on_line» .start < 512 ⌝ }
     ensures { λ r. ⌜ r ≡ queuedAll simulation ⌝ }
 {

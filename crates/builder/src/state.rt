@@ -23,7 +23,7 @@ use remy::RemyNetwork;
 use remy::Simulation;
 
 // A simulation in which nothing was sent, waits, moves, was counted or is queued.
-pub fn fresh(
+pub(crate) fn fresh(
     network: RemyNetwork,
     head: Head,
     link: Rng,
@@ -58,7 +58,7 @@ pub fn fresh(
 
 // Delay 0, rate 1, loss 0, no limit, packets of 1 bit, no senders, on and off always 1, windows held
 // at 1.
-pub fn empty_network() -> RemyNetwork
+pub(crate) fn empty_network() -> RemyNetwork
     ensures { λ r. ⌜ r ≡ emptyNetwork ⌝ }
 {
     RemyNetwork {
@@ -75,7 +75,7 @@ pub fn empty_network() -> RemyNetwork
 }
 
 // The generator of the empty simulation's link: the first child of seed 0.
-pub fn empty_words() -> Rng
+pub(crate) fn empty_words() -> Rng
     ensures { λ r. ⌜ r ≡ emptyWords ⌝ }
 {
     Rng::from_words(

@@ -49,7 +49,7 @@ pub enum Kind {
 // A number, and the byte that ends it.
 //
 // A helper within this crate: the caller gives an end that is no digit.
-pub fn ended(text: &[u8], at: usize, kind: Kind, end: u8) -> Number
+pub(crate) fn ended(text: &[u8], at: usize, kind: Kind, end: u8) -> Number
     requires { ⌜ NoDigit 16 (end ∷ []) ⌝ }
     ensures { λ r. ⌜ Reads (kindForm kind end) (now (text .entry)) at (numbered r) ⌝ }
 {
@@ -62,7 +62,7 @@ pub fn ended(text: &[u8], at: usize, kind: Kind, end: u8) -> Number
 // A key, a number, and the byte that ends it.
 //
 // A helper within this crate: the caller gives an end that is no digit.
-pub fn value(text: &[u8], at: usize, key: &[u8], kind: Kind, end: u8) -> Number
+pub(crate) fn value(text: &[u8], at: usize, key: &[u8], kind: Kind, end: u8) -> Number
     requires { ⌜ NoDigit 16 (end ∷ []) ⌝ }
     ensures { λ r. ⌜ Reads (keyed (now (key .entry)) (kindForm kind end)) (now (text .entry)) at (numbered r) ⌝ }
 {
@@ -73,7 +73,7 @@ pub fn value(text: &[u8], at: usize, key: &[u8], kind: Kind, end: u8) -> Number
 }
 
 // A key and two numbers: `key:n:n`.
-pub fn both(text: &[u8], at: usize, key: &[u8], first: Kind, second: Kind) -> Two
+pub(crate) fn both(text: &[u8], at: usize, key: &[u8], first: Kind, second: Kind) -> Two
     ensures { λ r. ⌜ Reads (twoForm (now (key .entry)) first second) (now (text .entry)) at (twofold r) ⌝ }
 {
     match value(text, at, key, first, b':') {
@@ -86,7 +86,7 @@ pub fn both(text: &[u8], at: usize, key: &[u8], first: Kind, second: Kind) -> Tw
 }
 
 // limit: `none` or bits.
-pub fn limit_line(text: &[u8], at: usize) -> LimitAt
+pub(crate) fn limit_line(text: &[u8], at: usize) -> LimitAt
     ensures { λ r. ⌜ Reads limitForm (now (text .entry)) at (limited r) ⌝ }
 {
     match word(text, at, b"limit=none\n") {
@@ -99,7 +99,7 @@ pub fn limit_line(text: &[u8], at: usize) -> LimitAt
 }
 
 // on and off: `always:h` or `uniform:h:h`.
-pub fn distribution_line(text: &[u8], at: usize, key: &[u8]) -> DistributionAt
+pub(crate) fn distribution_line(text: &[u8], at: usize, key: &[u8]) -> DistributionAt
     ensures { λ r. ⌜ Reads (distributionForm (now (key .entry))) (now (text .entry)) at (distributed r) ⌝ }
 {
     match word(text, at, key) {
@@ -118,7 +118,7 @@ pub fn distribution_line(text: &[u8], at: usize, key: &[u8]) -> DistributionAt
 }
 
 // policy: `held:w`, `grown:f:m` or `timed:m:h`.
-pub fn policy_line(text: &[u8], at: usize) -> PolicyAt
+pub(crate) fn policy_line(text: &[u8], at: usize) -> PolicyAt
     ensures { λ r. ⌜ Reads policyForm (now (text .entry)) at (governed r) ⌝ }
 {
     match value(text, at, b"policy=held:", Kind::Whole(MOST32), b'\n') {
@@ -161,7 +161,7 @@ pub enum LinkAt {
     Refused,
 }
 
-pub fn link_lines(text: &[u8], at: usize) -> LinkAt
+pub(crate) fn link_lines(text: &[u8], at: usize) -> LinkAt
     ensures { λ r. ⌜ Reads linkForm (now (text .entry)) at (linked r) ⌝ }
 {
     match value(text, at, b"delay=", Kind::Double, b'\n') {
@@ -200,7 +200,7 @@ pub enum LoadAt {
     Refused,
 }
 
-pub fn load_lines(text: &[u8], at: usize) -> LoadAt
+pub(crate) fn load_lines(text: &[u8], at: usize) -> LoadAt
     ensures { λ r. ⌜ Reads loadForm (now (text .entry)) at (loaded r) ⌝ }
 {
     match value(text, at, b"bits=", Kind::Whole(MOST64), b'\n') {
@@ -238,7 +238,7 @@ pub enum CourseAt {
     Refused,
 }
 
-pub fn course_lines(text: &[u8], at: usize) -> CourseAt
+pub(crate) fn course_lines(text: &[u8], at: usize) -> CourseAt
     ensures { λ r. ⌜ Reads courseForm (now (text .entry)) at (coursed r) ⌝ }
 {
     match policy_line(text, at) {

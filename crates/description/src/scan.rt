@@ -17,7 +17,7 @@ pub enum Number {
 }
 
 // The value of a lower-case hexadecimal digit, and 16 where the byte is none.
-pub fn digit(b: u8) -> u64
+pub(crate) fn digit(b: u8) -> u64
     ensures { λ r. ⌜ DigitIs b r ⌝ }
 {
     let x = b as u64;
@@ -39,7 +39,7 @@ pub fn digit(b: u8) -> u64
 // The digits from a position up to the first byte that is none, if their value is at most `most`.
 //
 // A helper within this crate: the caller gives a base of 1 to 16.
-pub fn digits(text: &[u8], at: usize, base: u64, most: u64) -> Number
+pub(crate) fn digits(text: &[u8], at: usize, base: u64, most: u64) -> Number
     requires { ⌜ (0 < base) × (base ≤ 16) ⌝ }
     ensures { λ r. ⌜ ReadsDigits base most (now (text .entry)) at (numbered r) ⌝ }
 {
@@ -63,7 +63,7 @@ pub fn digits(text: &[u8], at: usize, base: u64, most: u64) -> Number
 }
 
 // A fixed word.
-pub fn word(text: &[u8], at: usize, w: &[u8]) -> Place
+pub(crate) fn word(text: &[u8], at: usize, w: &[u8]) -> Place
     ensures { λ r. ⌜ Reads (wordForm (now (w .entry))) (now (text .entry)) at (placed r) ⌝ }
 {
     let mut next = at;
@@ -82,7 +82,7 @@ pub fn word(text: &[u8], at: usize, w: &[u8]) -> Place
 }
 
 // One byte.
-pub fn byte(text: &[u8], at: usize, b: u8) -> Place
+pub(crate) fn byte(text: &[u8], at: usize, b: u8) -> Place
     ensures { λ r. ⌜ Reads (wordForm (b ∷ [])) (now (text .entry)) at (placed r) ⌝ }
 {
     if text.len() <= at {
@@ -97,7 +97,7 @@ pub fn byte(text: &[u8], at: usize, b: u8) -> Place
 // A double: 16 hexadecimal digits, and the byte that ends it.
 //
 // A helper within this crate: the caller gives an end that is no digit.
-pub fn hex16(text: &[u8], at: usize, end: u8) -> Number
+pub(crate) fn hex16(text: &[u8], at: usize, end: u8) -> Number
     requires { ⌜ NoDigit 16 (end ∷ []) ⌝ }
     ensures { λ r. ⌜ Reads (hexForm end) (now (text .entry)) at (numbered r) ⌝ }
 {
@@ -116,7 +116,7 @@ pub fn hex16(text: &[u8], at: usize, end: u8) -> Number
 }
 
 // Whether a zero leads other digits.
-pub fn led(first: u8, count: usize) -> bool
+pub(crate) fn led(first: u8, count: usize) -> bool
     ensures { λ r. ⌜ r ≡ ledByZero first count ⌝ }
 {
     if count == 1 {
@@ -128,7 +128,7 @@ pub fn led(first: u8, count: usize) -> bool
 // A whole number: decimal without leading zeros, at most `most`, and the byte that ends it.
 //
 // A helper within this crate: the caller gives an end that is no digit.
-pub fn decimal(text: &[u8], at: usize, most: u64, end: u8) -> Number
+pub(crate) fn decimal(text: &[u8], at: usize, most: u64, end: u8) -> Number
     requires { ⌜ NoDigit 16 (end ∷ []) ⌝ }
     ensures { λ r. ⌜ Reads (decimalForm most end) (now (text .entry)) at (numbered r) ⌝ }
 {

@@ -10,7 +10,7 @@ use remy::Next;
 use remy::RemyNetwork;
 
 // Whether network, head and line are fit, without the packets.
-pub fn frame_fit(network: RemyNetwork, head: Head, line: Line) -> bool
+pub(crate) fn frame_fit(network: RemyNetwork, head: Head, line: Line) -> bool
     ensures { λ r. ⌜ r ≡ frameTest network head line ⌝ }
 {
     if network_stop(network) != 0 {
@@ -69,14 +69,14 @@ fn clock_held(head: Head) -> bool
 }
 
 // Whether a time is at most 2^41.
-pub fn time_held(time: Time) -> bool
+pub(crate) fn time_held(time: Time) -> bool
     ensures { λ r. ⌜ r ≡ held time ⌝ }
 {
     time.0.0 <= 2199023255552.0
 }
 
 // Whether a time is at most 2^41, and in 0..clock.
-pub fn past_fit(clock: Time, time: Time) -> bool
+pub(crate) fn past_fit(clock: Time, time: Time) -> bool
     ensures { λ r. ⌜ r ≡ pastTest clock time ⌝ }
 {
     if !time_held(time) {

@@ -78,7 +78,7 @@ fn times_fit(times: ContinuousDistribution) -> bool
 }
 
 // Whether a window is in 1..64.
-pub fn window_fit(window: u32) -> bool
+pub(crate) fn window_fit(window: u32) -> bool
     ensures { λ r. ⌜ r ≡ windowFit window ⌝ }
 {
     if window < 1 {

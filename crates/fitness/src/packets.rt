@@ -114,8 +114,8 @@ fn due_fit(on_line: [Transit; 512], ring: Ring) -> bool
 
 // Whether the packets that wait and those on the line are fit, and no due time falls.
 //
-// `pub` within this crate; `is_fit` has tested the senders' number and the rings.
-pub fn packets_fit(
+// For this crate: `is_fit` has tested the senders' number and the rings.
+pub(crate) fn packets_fit(
     senders: [LossySender; 16],
     n: u32,
     clock: Time,
@@ -138,8 +138,8 @@ pub fn packets_fit(
 
 // The due time of the first packet on the line; it is read only where there is one.
 //
-// `pub` within this crate; `is_fit` has tested the rings.
-pub fn first_due(on_line: [Transit; 512], ring: Ring) -> Time
+// For this crate: `is_fit` has tested the rings.
+pub(crate) fn first_due(on_line: [Transit; 512], ring: Ring) -> Time
     requires { ⌜ ring .start < 512 ⌝ }
     ensures { λ r. ⌜ r ≡ firstDue «on_line» ring ⌝ }
 {
@@ -150,8 +150,8 @@ pub fn first_due(on_line: [Transit; 512], ring: Ring) -> Time
 
 // How many packets of each sender wait; those of a sender from 16 on are counted nowhere.
 //
-// `pub` within this crate; `is_fit` has tested the rings.
-pub fn waiting_counts(waiting: [Packet; 512], ring: Ring) -> [usize; 16]
+// For this crate: `is_fit` has tested the rings.
+pub(crate) fn waiting_counts(waiting: [Packet; 512], ring: Ring) -> [usize; 16]
     requires { ⌜ (ring .start < 512) × (ring .count ≤ 512) ⌝ }
     ensures { λ r. ⌜ Counts (λ k. waitingOf k waiting ring) r ⌝ }
 {
@@ -175,8 +175,8 @@ pub fn waiting_counts(waiting: [Packet; 512], ring: Ring) -> [usize; 16]
 
 // How many packets of each sender are on the line; those of a sender from 16 on are counted nowhere.
 //
-// `pub` within this crate; `is_fit` has tested the rings.
-pub fn on_line_counts(on_line: [Transit; 512], ring: Ring) -> [usize; 16]
+// For this crate: `is_fit` has tested the rings.
+pub(crate) fn on_line_counts(on_line: [Transit; 512], ring: Ring) -> [usize; 16]
     requires { ⌜ (ring .start < 512) × (ring .count ≤ 512) ⌝ }
     ensures { λ r. ⌜ Counts (λ k. onLineOf k «on_line» ring) r ⌝ }
 {

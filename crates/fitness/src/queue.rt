@@ -167,8 +167,8 @@ fn places_fit(
 
 // Whether the next part and each place of the queue are fit.
 //
-// `pub` within this crate; `is_fit` has tested the senders' number.
-pub fn queue_fit(
+// For this crate: `is_fit` has tested the senders' number.
+pub(crate) fn queue_fit(
     n: u32,
     line: Line,
     clock: Time,

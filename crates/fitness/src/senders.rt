@@ -118,7 +118,7 @@ fn sender_on(state: SenderState) -> bool
 }
 
 // Whether there is a time: a meter that has a start is on.
-pub fn is_on(time: OptionTime) -> bool
+pub(crate) fn is_on(time: OptionTime) -> bool
     ensures { λ r. ⌜ r ≡ isOn time ⌝ }
 {
     match time {
@@ -192,8 +192,8 @@ fn sender_fit(
 // Whether the first n senders, with their togglers and meters, are fit, where element i of the counts
 // is how many of sender i's packets wait and how many are on the line.
 //
-// `pub` within this crate; `is_fit` has tested the network and counted over rings of 512 places.
-pub fn senders_fit(
+// For this crate: `is_fit` has tested the network and counted over rings of 512 places.
+pub(crate) fn senders_fit(
     policy: Policy,
     bits: u64,
     clock: Time,
