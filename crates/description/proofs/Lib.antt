@@ -6,4 +6,5 @@ mod Forms
 mod Cases
 mod Whole
 mod Buffer
+pub mod Short
 mod Examples
