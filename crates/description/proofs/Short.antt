@@ -12,7 +12,7 @@ use Rattle.description.specs.declared.Distribution.the-variants.{Always,
 use Rattle.description.specs.declared.Policy.{Policy}
 use Rattle.description.specs.declared.Policy.the-variants.{Held, Grown, Timed}
 use Rattle.description.specs.declared.Description.{Description}
-use Rattle.description.specs.Text.{hexOf, decimalOf, double, whole, limitOf, distributionOf, policyOf, textOf, limitInWidth, distributionInWidth, policyInWidth, InWidth}
+use Rattle.description.specs.Text.{hexOf, decimalOf, double, whole, limitOf, distributionOf, policyOf, textOf, limitInWidth, policyInWidth, InWidth}
 use Rattle.description.proofs.Written.{hex-length, decimal-length-le}
 
 -- ---- the parts of a line
