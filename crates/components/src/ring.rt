@@ -20,7 +20,9 @@ impl Ring {
         (self.start + self.count) % 512
     }
 
-    // With one item more at the end. A helper, as `end`.
+    // With one item more at the end.
+    //
+    // A helper for the crates above, and no entry point: the caller shows that there is room.
     pub fn push(self) -> Ring
         requires { ⌜ self .count < 512 ⌝ }
         ensures { λ r. ⌜ r ≡ pushed self ⌝ }
@@ -31,7 +33,9 @@ impl Ring {
         }
     }
 
-    // Without its first item. A helper, as `end`.
+    // Without its first item.
+    //
+    // A helper for the crates above, and no entry point: the caller shows that there is one.
     pub fn pop(self) -> Ring
         requires { ⌜ (self .start < 512) × (0 < self .count) ⌝ }
         ensures { λ r. ⌜ r ≡ popped self ⌝ }

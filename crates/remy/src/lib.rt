@@ -1,6 +1,6 @@
 // The Remy network and its simulation (document 01), after FlowForge's src/networks/remy.rs and
 // src/simulation.rs: the types. What build, fit, tick and run mean is in specs/, and the code that
-// equals it is in the crate `simulation`.
+// equals it is in the crates `fitness`, `builder`, `advance` and `simulation`.
 pub mod network;
 pub mod simulation;
 

@@ -1,4 +1,4 @@
--- The pieces of a tick that the loop of ticks calls, on small structs. Definitions only; the crate simulation proves that together they are the tick definition.
+-- The pieces of a tick that the loop of ticks calls, on small structs. Definitions only; the crate advance proves that together they are the tick definition.
 use Prim.Native.Nat.{ℕ}
 use mathlib.Core.Bool.{Bool, true, false, cond}
 use lib.Dec.{ltb}

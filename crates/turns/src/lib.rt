@@ -1,7 +1,7 @@
 // What a part does in its turn, as functions on small structs: the loop of ticks reads the elements
 // that a turn needs, calls these, and stores what they give. Each is a piece of the tick definition.
 //
-// All functions here are helpers for the crate `simulation`, and no entry points.
+// All functions here are helpers for the crates `advance` and `builder`, and no entry points.
 ghost use mathlib.Core.Path.{_≡_};
 ghost use Prim.Native.Nat.{_+_, _*_, _≤_, _<_, _^_};
 ghost use Rattle.remy.specs.State.{roleOf};
@@ -133,7 +133,7 @@ pub fn owner(packet: Packet) -> usize
 
 // The link's turn: first the packet that leaves, then the packet that starts.
 //
-// `pub` for the crate `simulation` only, which has tested the rings (9).
+// A helper for the crate `advance`, and no entry point: the rings have been tested there (9).
 pub fn link_acts(
     network: RemyNetwork,
     line: Line,
@@ -294,7 +294,7 @@ pub fn sender_slot(changed: bool, sender: LossySender, clock: Time, old: Queued)
 
 // A sender's turn: a timer equal to the clock goes first and alone; else one packet.
 //
-// `pub` for the crate `simulation` only, which has tested the next part (9).
+// A helper for the crate `advance`, and no entry point: the next part has been tested there (9).
 pub fn sender_acts(network: RemyNetwork, clock: Time, sender: LossySender, i: usize) -> SenderActed
     requires { ⌜ i < 16 ⌝ }
     ensures { λ r. ⌜ r ≡ senderActed network clock sender i ⌝ }
@@ -341,7 +341,8 @@ pub fn sender_acts(network: RemyNetwork, clock: Time, sender: LossySender, i: us
 
 // The packet that was sent arrives at the link.
 //
-// `pub` for the crate `simulation` only, which has tested the rings and the waiting bits (9).
+// A helper for the crate `advance`, and no entry point: the rings and the waiting bits have been
+// tested there (9).
 pub fn arrive(limit: Limit, bits: u64, line: Line, sending: Sending) -> Arriving
     requires { ⌜ (line .waiting .start < 512) × (line .waiting .count ≤ 512) × (line .«buffer_contains» .0 + bits < 2 ^ 64) ⌝ }
     ensures { λ r. ⌜ r ≡ arrivedAt limit bits line sending ⌝ }
@@ -395,7 +396,7 @@ pub fn waiting_at(admitted: bool, sending: Sending, old: Packet) -> Packet
 
 // The record of a sender's turn.
 //
-// `pub` for the crate `simulation` only, which has tested the next part (9).
+// A helper for the crate `advance`, and no entry point: the next part has been tested there (9).
 pub fn sender_note(clock: Time, i: usize, sending: Sending, mark: Mark) -> TickRecord
     requires { ⌜ i < 16 ⌝ }
     ensures { λ r. ⌜ r ≡ senderNote clock i sending mark ⌝ }
@@ -432,7 +433,7 @@ pub fn switched(policy: Policy, on: bool, sender: LossySender, clock: Time) -> L
 
 // The record of a toggler's turn.
 //
-// `pub` for the crate `simulation` only, which has tested the next part (9).
+// A helper for the crate `advance`, and no entry point: the next part has been tested there (9).
 pub fn toggler_note(clock: Time, i: usize, on: bool) -> TickRecord
     requires { ⌜ i < 16 ⌝ }
     ensures { λ r. ⌜ r ≡ togglerNote clock i on ⌝ }
