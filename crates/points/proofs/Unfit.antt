@@ -54,6 +54,7 @@ unfit-holds =
     and refl and (refl, refl) and (refl, refl)
     and (refl, refl) and (refl, refl)
     and refl and (refl, refl) and refl and (refl, refl)
+    and refl and refl and (refl, refl) and (refl, refl) and (refl, refl)
     and refl and refl and (refl, refl) and (refl, refl) and refl and refl and (refl, refl) and (refl, refl)
     and refl and refl and (refl, refl) and (refl, refl)
     and refl and refl and (refl, refl) and (refl, refl)
@@ -73,5 +74,5 @@ unfit-holds =
     and (refl, refl) and (refl, refl) and (refl, refl)
     and (refl, refl) and (refl, refl)
     and refl and (refl, refl) and (refl, refl) and refl and refl
-    and refl and refl and refl and refl
+    and refl and refl and refl
     and tt

@@ -298,7 +298,7 @@ rows s =
     ∷ row heldBySender (eachSender s (λ i. heldSender (senderAt s i .state)))
     ∷ row heldToggle (eachSender s (λ i. held (togglerAt s i .«next_toggle»)))
     ∷ row heldByMeter (eachSender s (λ i. heldIfAny (meterAt s i .«current_start»)))
-    ∷ row heldQueue (upTo queuePlaces (λ k. isNext (s .head .next) k || heldQueued s (queuedAt s k)))
+    ∷ row heldQueue (upTo queuePlaces (λ k. heldQueued s (queuedAt s k)))
     ∷ row pastWaiting (every (λ p. sinceStart s (p .«sent_time»)) (waitingItems s))
     ∷ row pastOnLine (every (λ p. sinceStart s (p .«sent_time»)) (onLinePackets s))
     ∷ row pastStarted (eachSender s (λ i. startedFit s (senderAt s i .state)))
@@ -416,11 +416,17 @@ unfit =
     -- a meter's start (never alone, as a sent time),
     ∷ Unfit (heldByMeter ∷ pastMeter ∷ []) (withMeterStart busy (Some (timeOf aboveHeld)))
     ∷ Unfit (heldByMeter ∷ pastMeter ∷ []) (withMeterStart busy (Some (timeOf nan)))
-    -- or queued below the clock. (A time queued above 2^41 is never alone: it is a start, a due time, a timer or a toggle.)
+    -- or queued below the clock. (At another part's place a NaN or a time above 2^41 is never alone: it is no own next time, or it is a start, a due time, a timer or a toggle.)
     ∷ Fit (toggling three)
     ∷ Unfit (heldQueue ∷ []) (toggling (power 1))
     ∷ Fit (waitingFor timed three)
     ∷ Unfit (heldQueue ∷ []) (waitingFor timed (power 1))
+    -- At the next part's own place, which no other test reads:
+    ∷ Fit (queuedFor busy 0 three)
+    ∷ Fit (queuedFor busy 0 (power 41))
+    ∷ Unfit (heldQueue ∷ []) (queuedFor busy 0 nan)
+    ∷ Unfit (heldQueue ∷ []) (queuedFor busy 0 aboveHeld)
+    ∷ Unfit (heldQueue ∷ []) (queuedFor busy 0 (power 1))
     -- A packet's sent time,
     ∷ Fit (withFirst busy (packetOf 0 4 zeroF))
     ∷ Fit (withFirst busy (packetOf 0 4 three))
@@ -505,8 +511,7 @@ unfit =
     ∷ Unfit (heldToggle ∷ others ∷ []) (withToggler pair 1 noToggler)
     ∷ Fit (withMeter busy 1 noMeter)
     ∷ Fit (withToggler busy 1 noToggler)
-    -- In no clause: the next part's own place in the queue, waiting bits above the limit, a packet held twice, a greatest ack above sent.
-    ∷ Fit (queuedFor busy 0 nan)
+    -- In no clause: waiting bits above the limit, a packet held twice, a greatest ack above sent.
     ∷ Fit (waiters 0 2)
     ∷ Fit (withFirst busy (packetOf 0 2 (power 1)))
     ∷ Fit (sending (withAck busy 5))

@@ -274,13 +274,13 @@ module _ (s : Simulation) (b : Blank s) where
 
 -- ---- the clauses that read them
 
--- The clock and the next part fit, and every other place is queued at its part's own next time, which is held.
+-- The clock and the next part fit, every other place is queued at its part's own next time, and what is queued is held and not below the clock.
 record Ready (s : Simulation) : Type 0 where
   clock : T (le zeroF (s .head .clock .0 .0))
   now : (held (s .head .clock) || (isIdle (s .head .next) && eq (s .head .clock .0 .0) largest)) ≡ true
   next : nextFit s (s .head .next) ≡ true
   own : (k : ℕ) → k < queuePlaces → isNext (s .head .next) k ≡ false → sameTime (queuedAt s k) (nextTimeOf s k) ≡ true
-  later : (k : ℕ) → k < queuePlaces → isNext (s .head .next) k ≡ false → heldQueued s (queuedAt s k) ≡ true
+  later : (k : ℕ) → k < queuePlaces → heldQueued s (queuedAt s k) ≡ true
 
 -- -MAX is below 2^41, and so is what is in 0..2^20
 least-held : le least (power 41) ≡ true
@@ -309,9 +309,8 @@ module _ (s : Simulation) (b : Blank s) (a : Ready s) where
       let off : eachSender s (λ i. heldSender (senderAt s i .state)) ≡ true = upTo-intro _ _ (λ i h. rw (b .senders i h)) in
       let toggles : eachSender s (λ i. held (togglerAt s i .«next_toggle»)) ≡ true = upTo-intro _ _ (λ i h. held-soon _ (b .togglers i h .soon)) in
       let empty : eachSender s (λ i. heldIfAny (meterAt s i .«current_start»)) ≡ true = upTo-intro _ _ (λ i h. rw (b .meters i h)) in
-      let others : upTo queuePlaces (λ k. isNext (s .head .next) k || heldQueued s (queuedAt s k)) ≡ true =
-      upTo-intro _ _ (λ k h. or-else _ _ (a .later k h)) in
-      rw (a .now, off, toggles, empty, others, b .line, least-held)
+      let queued : upTo queuePlaces (λ k. heldQueued s (queuedAt s k)) ≡ true = upTo-intro _ _ (a .later) in
+      rw (a .now, off, toggles, empty, queued, b .line, least-held)
 
   blank-fit : fit s ≡ true
   blank-fit =
@@ -367,6 +366,15 @@ same-self (Some t) w = is-true (eq (t .0 .0) (t .0 .0)) (eq-refl (t .0 .0) (le-k
 
 -- ---- the first pick
 
+-- a place after a removal holds nothing or what it held
+pub after-removal : (F : OptionTime → Type 0) (queue : List Queued) (j k : ℕ) → F None → F (getD queue k noQueued .time)
+    → F (getD (set queue j noQueued) k noQueued .time)
+after-removal F [] j k none there = there
+after-removal F (q ∷ qs) zero zero none there = none
+after-removal F (q ∷ qs) zero (suc k) none there = there
+after-removal F (q ∷ qs) (suc j) zero none there = there
+after-removal F (q ∷ qs) (suc j) (suc k) none there = after-removal F qs j k none there
+
 -- the queue before the pick, and what the pick gives
 abbrev allQueued : Simulation → List Queued
 allQueued s = ownTimes s queuePlaces 0
@@ -399,7 +407,7 @@ module _ (s : Simulation) (b : Blank s) where
         now = refl;
         next = upTo-intro queuePlaces (λ k. not (isOn (queuedAt (after s None) k))) (λ k h. rw (picked-nothing (allQueued s) e k));
         own = λ k h z. place-same None (queuedAt (after s None) k) k h refl;
-        later = λ k h z. rw (picked-nothing (allQueued s) e k);
+        later = λ k h. rw (picked-nothing (allQueued s) e k);
       }
 
   module _ (t : Time) (e : first s .time ≡ Some t) where
@@ -428,7 +436,9 @@ module _ (s : Simulation) (b : Blank s) where
           now = rw (held-soon (t .0 .0) first-soon);
           next = ap (sameTime (Some t)) (own-same s b _ _ _ ∙ there) ∙ same-self (Some t) first-soon;
           own = λ k h z. place-same (Some t) (queuedAt (after s (Some t)) k) k h (kept k z);
-          later = λ k h z. rw (kept k z) (not-before k (getD (allQueued s) k noQueued .time) refl (rw (queued-own k h) (soon s b k)));
+          later = λ k h.
+              after-removal (λ (x : OptionTime). heldQueued (after s (Some t)) x ≡ true) (allQueued s) (first s .part) k refl
+              (not-before k (getD (allQueued s) k noQueued .time) refl (rw (queued-own k h) (soon s b k)));
         }
 
   ready : (time : OptionTime) → first s .time ≡ time → Ready (after s time)

@@ -89,11 +89,6 @@ abbrev pub heldQueued : Simulation → OptionTime → Bool
 heldQueued s None = true
 heldQueued s (Some t) = held t && le (s .head .clock .0 .0) (t .0 .0)
 
--- the place of the next part itself is read by no clause
-abbrev pub isNext : Next → ℕ → Bool
-isNext Next.None k = false
-isNext (Next.Part j) k = eqb j k
-
 unfoldable pub heldTimesFit : Simulation → Bool
 heldTimesFit s =
     (held (s .head .clock) || (isIdle (s .head .next) && eq (s .head .clock .0 .0) largest))
@@ -104,7 +99,7 @@ heldTimesFit s =
     && eachSender s (λ i. heldSender (senderAt s i .state))
     && eachSender s (λ i. held (togglerAt s i .«next_toggle»))
     && eachSender s (λ i. heldIfAny (meterAt s i .«current_start»))
-    && upTo queuePlaces (λ k. isNext (s .head .next) k || heldQueued s (queuedAt s k))
+    && upTo queuePlaces (λ k. heldQueued s (queuedAt s k))
 
 -- a packet's sent time, a sender's started or a meter's start outside 0..clock
 abbrev pub sinceStart : Simulation → Time → Bool
@@ -206,6 +201,11 @@ sameTime (Some t) (Some u) = eq (t .0 .0) (u .0 .0)
 abbrev pub nextFit : Simulation → Next → Bool
 nextFit s Next.None = upTo queuePlaces (λ k. not (isOn (queuedAt s k)))
 nextFit s (Next.Part j) = sameTime (Some (s .head .clock)) (nextTimeOf s j)
+
+-- the place of the next part itself is read by no test of this clause
+abbrev pub isNext : Next → ℕ → Bool
+isNext Next.None k = false
+isNext (Next.Part j) k = eqb j k
 
 -- or another part whose queued time isn't its own next time (queued with none, or not queued with one, included)
 unfoldable pub queueFit : Simulation → Bool

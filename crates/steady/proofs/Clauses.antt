@@ -6,7 +6,7 @@ use Rattle.quantities.specs.Doubles.{largest}
 use Rattle.components.specs.Queue.{queuePlaces}
 use Rattle.remy.specs.declared.simulation.Simulation.{Simulation}
 use Rattle.remy.specs.State.{senderAt, togglerAt, meterAt, queuedAt, waitingItems, onLineItems, onLinePackets}
-use Rattle.remy.specs.Fit.{every, upTo, eachSender, held, heldIfAny, isIdle, heldSender, heldQueued, isNext, sinceStart, startedFit, meterStartFit, heldTimesFit, pastFit}
+use Rattle.remy.specs.Fit.{every, upTo, eachSender, held, heldIfAny, isIdle, heldSender, heldQueued, sinceStart, startedFit, meterStartFit, heldTimesFit, pastFit}
 use Rattle.remy.proofs.Facts.{both-l, both-r}
 
 pub record HeldTimes (s : Simulation) : Type 0 where
@@ -15,7 +15,7 @@ pub record HeldTimes (s : Simulation) : Type 0 where
   pub dues : every (λ x. held (x .due)) (onLineItems s) ≡ true
   pub senders : eachSender s (λ i. heldSender (senderAt s i .state)) ≡ true
   pub toggles : eachSender s (λ i. held (togglerAt s i .«next_toggle»)) ≡ true
-  pub queue : upTo queuePlaces (λ k. isNext (s .head .next) k || heldQueued s (queuedAt s k)) ≡ true
+  pub queue : upTo queuePlaces (λ k. heldQueued s (queuedAt s k)) ≡ true
 
 pub held-times : (s : Simulation) → heldTimesFit s ≡ true → HeldTimes s
 unfolding heldTimesFit
@@ -28,7 +28,7 @@ held-times s all =
     let senders = eachSender s (λ i. heldSender (senderAt s i .state)) in
     let toggles = eachSender s (λ i. held (togglerAt s i .«next_toggle»)) in
     let starts = eachSender s (λ i. heldIfAny (meterAt s i .«current_start»)) in
-    let queue = upTo queuePlaces (λ k. isNext (s .head .next) k || heldQueued s (queuedAt s k)) in
+    let queue = upTo queuePlaces (λ k. heldQueued s (queuedAt s k)) in
     let to-waiting = now && free && waiting in
     let to-dues = to-waiting && moving && dues in
     let to-toggles = to-dues && senders && toggles in

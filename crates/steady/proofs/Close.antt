@@ -1,7 +1,8 @@
 -- From the facts by parts to the test: a state between ticks is steady. Assumes nothing.
 use mathlib.Core.Path.{_≡_, refl, sym, subst}
 use mathlib.Core.Bool.{Bool, true, false, not, _&&_, _||_, Bool·beq}
-use Prim.Native.Nat.{ℕ, _+_, _*_}
+use Prim.Native.Nat.{ℕ, _+_, _*_, _<_}
+use native.Mathlib.Decide.{ℕ-discrete}
 use borrow.Author.Tests.{lt-ltb, le-leb, eq-eqb, eqb-false}
 use lib.Dec.{leb, ltb, eqb}
 use lib.Ieee.{le}
@@ -28,7 +29,7 @@ use Rattle.remy.specs.Fit.{every, upTo, eachSender, packetFit, held, heldIfAny,
 use Rattle.remy.proofs.Facts.{both-i, range-i}
 use Rattle.remy.proofs.Fresh.{or-else, upTo-intro, fit-intro}
 use Rattle.steady.specs.Steady.{dueSoon, steady}
-use Rattle.steady.proofs.Facts.{Past, PastIfAny, PacketOk, TransitOk, TimerIfAny, StateOk, PartOk, sentOf, Body, PlaceOk, Between}
+use Rattle.steady.proofs.Facts.{Past, PastIfAny, PacketOk, TransitOk, TimerIfAny, StateOk, PartOk, sentOf, Body, Between}
 use Rattle.steady.proofs.Lists.{all-map, all-mapped, all-every}
 
 beq-self : (a : Bool) → Bool·beq a a ≡ true
@@ -213,20 +214,21 @@ module _ (s : Simulation) (b : Body s) where
 -- ---- the clauses that read it
 
 module _ (s : Simulation) (j : ℕ) (w : Between j s) where
-  -- every place but that of the next part
-  others : (f : ℕ → Bool) → ((k : ℕ) → PlaceOk s k → f k ≡ true) → upTo queuePlaces (λ k. isNext (s .head .next) k || f k) ≡ true
-  others f g =
-      upTo-intro queuePlaces (λ k. isNext (s .head .next) k || f k)
-      (λ k h. subst (λ (n : Next). (isNext n k || f k) ≡ true) (sym (w .next))
-      (or-else (eqb j k) (f k) (λ e. g k (w .queue k h (λ same. eqb-false j k e (sym same))))))
-
   queue-fit : queueFit s ≡ true
   unfolding queueFit
   queue-fit =
       let own : ℕ → Bool = λ k. sameTime (queuedAt s k) (nextTimeOf s k) in
       both-i (nextFit s (s .head .next)) (upTo queuePlaces (λ k. isNext (s .head .next) k || own k))
       (subst (λ (n : Next). nextFit s n ≡ true) (sym (w .next)) (w .own))
-      (others own (λ k o. o .own))
+      (upTo-intro queuePlaces (λ k. isNext (s .head .next) k || own k)
+      (λ k h. subst (λ (n : Next). (isNext n k || own k) ≡ true) (sym (w .next))
+      (or-else (eqb j k) (own k) (λ e. w .queue k h (λ same. eqb-false j k e (sym same)) .own))))
+
+  queued-held : (k : ℕ) → k < queuePlaces → heldQueued s (queuedAt s k) ≡ true
+  queued-held k h = elim (ℕ-discrete j k) [
+    | yes same ↦ subst (λ (i : ℕ). i < queuePlaces → heldQueued s (queuedAt s i) ≡ true) same (w .place) h
+    | no other ↦ w .queue k h (λ same. other (sym same)) .ahead
+  ]
 
   held-times-fit : heldTimesFit s ≡ true
   unfolding heldTimesFit
@@ -239,7 +241,7 @@ module _ (s : Simulation) (j : ℕ) (w : Between j s) where
       let senders : eachSender s (λ i. heldSender (senderAt s i .state)) ≡ true = each-part s b _ (λ i o. state-held s b (s .network .policy) (senderAt s i .state) (o .state)) in
       let toggles : eachSender s (λ i. held (togglerAt s i .«next_toggle»)) ≡ true = each-part s b _ (λ i o. is-true (held (togglerAt s i .«next_toggle»)) (o .toggle)) in
       let starts : eachSender s (λ i. heldIfAny (meterAt s i .«current_start»)) ≡ true = each-part s b _ (λ i o. start-held s b (meterAt s i .«current_start») (o .meter .start)) in
-      let queued : upTo queuePlaces (λ k. isNext (s .head .next) k || heldQueued s (queuedAt s k)) ≡ true = others (λ k. heldQueued s (queuedAt s k)) (λ k o. o .ahead) in
+      let queued : upTo queuePlaces (λ k. heldQueued s (queuedAt s k)) ≡ true = upTo-intro queuePlaces (λ k. heldQueued s (queuedAt s k)) queued-held in
       rw (is-true (held (s .head .clock)) (b .held), is-true (held (s .line .«earliest_transmit»)) (b .line .free), waiting, moving, dues, senders, toggles, starts, queued)
 
 pub closed : (s : Simulation) (j : ℕ) → Between j s → steady s ≡ true

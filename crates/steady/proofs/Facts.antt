@@ -147,9 +147,10 @@ QueueBut j s = (k : ℕ) → k < queuePlaces → (k ≡ j → ⊥) → PlaceOk s
 abbrev pub QueueOk : Simulation → Type 0
 QueueOk s = (k : ℕ) → k < queuePlaces → PlaceOk s k
 
--- between ticks, where part j is next: its own next time is the clock
+-- between ticks, where part j is next: its own next time is the clock, and what is queued at its own place is held and not below the clock
 pub record Between (j : ℕ) (s : Simulation) : Type 0 where
   pub body : Body s
   pub next : s .head .next ≡ Next.Part j
   pub own : sameTime (Some (s .head .clock)) (nextTimeOf s j) ≡ true
+  pub place : j < queuePlaces → heldQueued s (queuedAt s j) ≡ true
   pub queue : QueueBut j s

@@ -106,11 +106,8 @@ module _ (s : Simulation) (j : ℕ) (all : steady s ≡ true) (full : Full s) (n
 
   -- ---- the queue
 
-  -- a test of every place but that of the next part
-  place : (f : ℕ → Bool) → upTo queuePlaces (λ k. isNext (s .head .next) k || f k) ≡ true → (k : ℕ) → k < queuePlaces → (k ≡ j → ⊥) → f k ≡ true
-  place f e k h other =
-      or-rest (isNext (s .head .next) k) (f k) (ap (λ (n : Next). isNext n k) next ∙ ne-eqb j k (λ same. other (sym same)))
-      (upTo-at queuePlaces (λ i. isNext (s .head .next) i || f i) e k h)
+  queued-held : (k : ℕ) → k < queuePlaces → heldQueued s (queuedAt s k) ≡ true
+  queued-held = upTo-at queuePlaces (λ k. heldQueued s (queuedAt s k)) (helds .queue)
 
   own-next : sameTime (Some (s .head .clock)) (nextTimeOf s j) ≡ true
   unfolding queueFit
@@ -123,8 +120,12 @@ module _ (s : Simulation) (j : ℕ) (all : steady s ≡ true) (full : Full s) (n
   others k h other =
       let own : ℕ → Bool = λ i. sameTime (queuedAt s i) (nextTimeOf s i) in
       record {
-        own = place own (both-r (nextFit s (s .head .next)) (upTo queuePlaces (λ i. isNext (s .head .next) i || own i)) (fits .queue)) k h other;
-        ahead = place (λ i. heldQueued s (queuedAt s i)) (helds .queue) k h other;
+        own =
+            or-rest (isNext (s .head .next) k) (own k) (ap (λ (n : Next). isNext n k) next ∙ ne-eqb j k (λ same. other (sym same)))
+            (upTo-at queuePlaces (λ i. isNext (s .head .next) i || own i)
+            (both-r (nextFit s (s .head .next)) (upTo queuePlaces (λ i. isNext (s .head .next) i || own i)) (fits .queue))
+            k h);
+        ahead = queued-held k h;
       }
 
   -- no part's own next time is before the clock
@@ -345,4 +346,11 @@ module _ (s : Simulation) (j : ℕ) (all : steady s ≡ true) (full : Full s) (n
       }
 
 pub opened : (s : Simulation) (j : ℕ) → steady s ≡ true → Full s → s .head .next ≡ Next.Part j → Between j s
-opened s j e full next = record { body = body s j e full next; next = next; own = own-next s j e full next; queue = others s j e full next }
+opened s j e full next =
+    record {
+      body = body s j e full next;
+      next = next;
+      own = own-next s j e full next;
+      place = queued-held s j e full next j;
+      queue = others s j e full next;
+    }

@@ -41,7 +41,7 @@ use Rattle.remy.specs.Fit.{heldQueued, sameTime, rising}
 use Rattle.remy.proofs.Facts.{both-l, both-r, holds}
 use Rattle.remy.proofs.Networks.{fit-network, few-senders, delay-from-zero}
 use Rattle.remy.proofs.Roles.{Real, role-at, role-of, part-inside}
-use Rattle.remy.proofs.Fresh.{All}
+use Rattle.remy.proofs.Fresh.{All, after-removal}
 use Rattle.steady.proofs.Facts.{NotAfter, Held, Past, PastIfAny, PacketOk, TransitOk, TimerIfAny, StateOk, MeterOk, Body, sentOf, QueueOk, Between}
 use Rattle.steady.proofs.Lists.{all-map}
 use Rattle.steady.proofs.Full.{full-queue}
@@ -270,6 +270,13 @@ module _ (s : Simulation) (b : Body s) (q : QueueOk s) where
         (λ role r i. own-same s b t picked-ahead (next s) own-from role r)
         (unfold ownTime in refl)
 
+    -- what is left in the queue is not before the picked time
+    left-ahead : (k : ℕ) → k < queuePlaces → heldQueued (moved s (next s) t) (queuedAt (moved s (next s) t) k) ≡ true
+    left-ahead k h =
+        let s' = moved s (next s) t in
+        after-removal (λ (x : OptionTime). heldQueued s' x ≡ true) (s .queue) (next s) k refl
+        (ahead-queued s' (queuedAt s k) (record { held = queued k h .held; from = queued-from k h }))
+
     moved-between : Between (next s) (moved s (next s) t)
     moved-between =
         let j = next s in
@@ -279,13 +286,14 @@ module _ (s : Simulation) (b : Body s) (q : QueueOk s) where
           next = refl;
           own =
               same-trans (Some t) (nextTimeOf s j) (nextTimeOf s' j) (subst (λ (x : OptionTime). sameTime x (nextTimeOf s j) ≡ true) there (q j inside .own)) (next-same j);
+          place = left-ahead j;
           queue = λ k h other.
               let same : queuedAt s' k ≡ queuedAt s k = ap (λ (x : Queued). x .time) (getD-set-other (s .queue) j k noQueued noQueued other) in
               record {
                 own =
                     ap (λ (x : OptionTime). sameTime x (nextTimeOf s' k)) same
                     ∙ same-trans (queuedAt s k) (nextTimeOf s k) (nextTimeOf s' k) (q k h .own) (next-same k);
-                ahead = ap (heldQueued s') same ∙ ahead-queued s' (queuedAt s k) (record { held = queued k h .held; from = queued-from k h });
+                ahead = left-ahead k h;
               };
         }
 
