@@ -2,7 +2,7 @@
 -- Assumes nothing.
 use Prim.Native.Nat.{ℕ, zero, suc, _+_, _*_, _<_}
 use mathlib.Core.Path.{_≡_, refl, sym, ap, _∙_}
-use mathlib.Core.Bool.{Bool, true, false, not, _&&_, _||_, Bool·beq, or-and-distrib-left}
+use mathlib.Core.Bool.{Bool, true, false, not, _&&_, _||_, Bool·beq}
 use mathlib.Core.List.{List, [], _∷_, map}
 use native.Mathlib.Nat.{zero-mul, suc-mul, add-comm}
 use native.Mathlib.Omega.{arith}
@@ -16,14 +16,13 @@ use Rattle.components.specs.declared.lossy.Policy.{Policy}
 use Rattle.components.specs.declared.lossy.SenderState.{SenderState}
 use Rattle.components.specs.Ring.{itemsFrom}
 use Rattle.components.specs.declared.lossy.SenderState.the-variants as State
-use Rattle.remy.specs.declared.simulation.Next.{Next}
 use Rattle.remy.specs.declared.simulation.Simulation.{Simulation}
 use Rattle.remy.specs.Network.{between, windowFit}
 use Rattle.remy.specs.State.{Role, link, sender, toggler, nobody, senderAt, togglerAt, meterAt, frontOf, totalBits}
 use Rattle.remy.specs.Queue.{ownTime}
-use Rattle.remy.specs.Fit.{every, upTo, packetFit, held, heldIfAny, heldSender, heldQueued, isNext, sinceStart, startedFit, meterStartFit, countOf, ackFit, heldWindowFit, isTimed, timerFit, senderOn, sameTime}
+use Rattle.remy.specs.Fit.{every, upTo, packetFit, held, heldIfAny, heldSender, heldQueued, sinceStart, startedFit, meterStartFit, countOf, ackFit, heldWindowFit, isTimed, timerFit, senderOn}
 use Rattle.remy.proofs.Facts.{both-l, both-r, both-i}
-use Rattle.fitness.specs.Tests.{pastTest, sentTest, packetTest, tally, timerTest, enabledTest, stateTest, startTest, meterTest, agreeTest, sentCountTest, senderTest, roleTime, queuedTest, placeTest}
+use Rattle.fitness.specs.Tests.{pastTest, sentTest, packetTest, tally, timerTest, enabledTest, stateTest, startTest, meterTest, agreeTest, sentCountTest, senderTest, roleTime, queuedTest}
 
 -- ---- conjunctions
 
@@ -231,13 +230,7 @@ module _ (s : Simulation) where
   own-same (toggler i) = refl
   own-same nobody = refl
 
-  queued-same : (q : OptionTime) → queuedTest (s .head .clock) q ≡ heldQueued s q
+  pub queued-same : (q : OptionTime) → queuedTest (s .head .clock) q ≡ heldQueued s q
   unfolding queuedTest
   queued-same None = refl
   queued-same (Some t) = refl
-
-  pub place-same : (next : Next) (k : ℕ) (q own : OptionTime)
-      → placeTest next (s .head .clock) k q own ≡ ((isNext next k || heldQueued s q) && (isNext next k || sameTime q own))
-  unfolding placeTest
-  place-same next k q own =
-      ap (λ (t : Bool). isNext next k || t && sameTime q own) (queued-same q) ∙ or-and-distrib-left (isNext next k) (heldQueued s q) (sameTime q own)

@@ -23,7 +23,7 @@ use Rattle.remy.proofs.Facts.{FitState, fit-state, both-l, both-r, both-i, upTo
 use Rattle.remy.specs.declared.simulation.Next.the-variants as Next
 use Rattle.fitness.specs.Tests.{ringsTest, clockHeld, frameTest, packetTest, transitTest, waitingTest, onLineTest, dueTest, packetsTest, firstDue, waitingOf, onLineOf, Counts, sendersTest, partTime, placeTest, emptyTest, nextTest, placesTest, queueTest}
 use Rattle.fitness.proofs.Members.{senders-same}
-use Rattle.fitness.proofs.Clauses.{same-test, and-2, and-3, and-4, and-5, every-imp, every-and, every-map, upTo-i, bits-product, count-tally, count-map, packet-clauses, clauses-packet, SenderClauses, sender-clauses, clauses-sender, own-same, place-same}
+use Rattle.fitness.proofs.Clauses.{same-test, and-2, and-3, and-4, and-5, every-imp, every-and, every-map, upTo-i, bits-product, count-tally, count-map, packet-clauses, clauses-packet, SenderClauses, sender-clauses, clauses-sender, own-same, queued-same}
 
 module _ (s : Simulation) where
   -- ---- the groups' tests of the state
@@ -198,14 +198,15 @@ module _ (s : Simulation) where
   place k = placeTest (s .head .next) (s .head .clock) k (queuedAt s k) (own k)
 
   abbrev place-held : ℕ → Bool
-  place-held k = isNext (s .head .next) k || heldQueued s (queuedAt s k)
+  place-held k = heldQueued s (queuedAt s k)
 
   abbrev place-own : ℕ → Bool
   place-own k = isNext (s .head .next) k || sameTime (queuedAt s k) (nextTimeOf s k)
 
   place-is : (k : ℕ) → place k ≡ (place-held k && place-own k)
+  unfolding placeTest
   place-is k =
-      place-same s (s .head .next) k (queuedAt s k) _ ∙ ap (λ (t : OptionTime). place-held k && (isNext (s .head .next) k || sameTime (queuedAt s k) t)) (part-same k)
+      ap₂ (λ (h : Bool) (t : OptionTime). h && (isNext (s .head .next) k || sameTime (queuedAt s k) t)) (queued-same s (queuedAt s k)) (part-same k)
 
   places : ℕ → Bool
   places n =

@@ -185,9 +185,9 @@ unfoldable pub queuedTest : Time → OptionTime → Bool
 queuedTest clock None = true
 queuedTest clock (Some t) = held t && le (clock .0 .0) (t .0 .0)
 
--- a place with what is queued there and the own next time of its part; that of the next part is not read
+-- a place with what is queued there and the own next time of its part, which is not compared for the next part
 unfoldable pub placeTest : Next → Time → ℕ → OptionTime → OptionTime → Bool
-placeTest next clock k queued own = isNext next k || queuedTest clock queued && sameTime queued own
+placeTest next clock k queued own = queuedTest clock queued && (isNext next k || sameTime queued own)
 
 -- nothing is queued in the first n places
 unfoldable pub emptyTest : ℕ → List Queued → Bool

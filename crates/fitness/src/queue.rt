@@ -90,11 +90,11 @@ fn queued_fit(clock: Time, queued: OptionTime) -> bool
 fn place_fit(next: Next, clock: Time, k: usize, queued: OptionTime, own: OptionTime) -> bool
     ensures { λ r. ⌜ r ≡ placeTest next clock k queued own ⌝ }
 {
-    if is_next(next, k) {
-        return true;
-    }
     if !queued_fit(clock, queued) {
         return false;
+    }
+    if is_next(next, k) {
+        return true;
     }
     same_time(queued, own)
 }

@@ -5,27 +5,23 @@ use Rattle.fitness.specs.Tests.{placeTest}
 use Rattle.fitness.proofs.queue.place_fit.Statement.{statement}
 use Rattle.fitness.proofs.queue.place_fit.Tie as tie
 
-is-next-requires : tie.Need-is-next-requires
-is-next-requires c κs = search needs
+queued-fit-requires : tie.Need-queued-fit-requires
+queued-fit-requires c κs = search needs
 
 returns : tie.Need-returns
 unfolding placeTest
-returns c =
-    rw (
-      ← c .before .is-next .ensures,
-      c .if1 .taken,
-    )
+returns c = rw (failed (c .before .queued-fit .ensures) (c .if1 .taken))
 
-queued-fit-requires : tie.Need-queued-fit-requires
-queued-fit-requires c κs = search needs
+is-next-requires : tie.Need-is-next-requires
+is-next-requires c κs = search needs
 
 returns-2 : tie.Need-returns-2
 unfolding placeTest
 returns-2 c =
     rw (
-      ← c .before .before .before .is-next .ensures,
-      c .before .before .if1 .left,
-      failed (c .before .queued-fit .ensures) (c .if2 .taken),
+      passed (c .before .before .before .queued-fit .ensures) (c .before .before .if1 .left),
+      ← c .before .is-next .ensures,
+      c .if2 .taken,
     )
 
 same-time-requires : tie.Need-same-time-requires
@@ -36,12 +32,12 @@ unfolding placeTest
 returns-3 c =
     rw (
       c .same-time .ensures,
-      ← c .before .before .before .before .is-next .ensures,
-      c .before .before .before .if1 .left,
-      passed (c .before .before .queued-fit .ensures) (c .before .if2 .left),
+      passed (c .before .before .before .before .queued-fit .ensures) (c .before .before .before .if1 .left),
+      ← c .before .before .is-next .ensures,
+      c .before .if2 .left,
     )
 
 pub place-fit-spec : {M : Type 1} → statement M
 place-fit-spec =
     tie.close
-    (tie.spec is-next-requires returns queued-fit-requires returns-2 same-time-requires returns-3)
+    (tie.spec queued-fit-requires returns is-next-requires returns-2 same-time-requires returns-3)
