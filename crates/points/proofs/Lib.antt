@@ -5,3 +5,6 @@ pub mod Ranges
 pub mod Worked
 pub mod Unfit
 pub mod Counted
+pub mod Follows
+pub mod Once
+pub mod Refuted

@@ -4,3 +4,4 @@ pub mod Ranges
 pub mod Worked
 pub mod Unfit
 pub mod Counted
+pub mod Refuted

@@ -99,7 +99,7 @@ either true b e = inl refl
 either false b e = inr e
 
 module _ (f : PacketId → ℕ) (h : List TickRecord) where
-  sends-split : total f (ids (sends h)) ≡ total f (ids (admissions h)) + total f (droppedFull h)
+  pub sends-split : total f (ids (sends h)) ≡ total f (ids (admissions h)) + total f (droppedFull h)
   sends-split = entries-either f isS isF (letters 83 70 (λ (e : 83 ≡ 70). omega arith)) h
 
   leaves-split : total f (ids (leaves h)) ≡ total f (lost h) + (total f (counted h) + (total f (old h) + total f (ignored h)))
@@ -113,20 +113,13 @@ module _ (f : PacketId → ℕ) (h : List TickRecord) where
       (λ m l q. ⊎-elim (letters 67 79 (λ (e : 67 ≡ 79). omega arith) m l) (letters 67 73 (λ (e : 67 ≡ 73). omega arith) m l) (either (isO m) (isI m) q)) h
       ∙ ap (λ (c : ℕ). total f (counted h) + c) (entries-either f isO isI (letters 79 73 (λ (e : 79 ≡ 73). omega arith)) h))
 
-  module _ {n : RemyNetwork} {s : Simulation} (k : KeptAt n h s) where
-    -- every packet sent is in one of the seven places
-    partition : total f (ids (sends h))
-        ≡ total f (droppedFull h) + (total f (map idOf (waitingItems s)) + (total f (map idOf (onLinePackets s)) + (total f (lost h) + (total f (counted h) + (total f (old h) + total f (ignored h))))))
-    partition =
-        let started : total f (ids (admissions h)) ≡ total f (ids (starts h)) + total f (map idOf (waitingItems s)) =
-        ap (total f) (k .line .starts) ∙ total-append f (ids (starts h)) (map idOf (waitingItems s)) in
-        let left : total f (ids (starts h)) ≡ total f (ids (leaves h)) + total f (map idOf (onLinePackets s)) =
-        ap (total f) (k .line .leaves ∙ ap (λ (l : List PacketId). ids (leaves h) ++ l) (sym (map-map idOf (λ x. x .packet) (onLineItems s))))
-        ∙ total-append f (ids (leaves h)) (map idOf (onLinePackets s)) in
-        omega (arith, sends-split, started, left, leaves-split)
+  module _ (s : Simulation) where
+    -- the seven places one by one
+    abbrev places : ℕ
+    places = total f (droppedFull h) + (total f (map idOf (waitingItems s)) + (total f (map idOf (onLinePackets s)) + (total f (lost h) + (total f (counted h) + (total f (old h) + total f (ignored h))))))
 
-    together : total f (everywhere h s) ≡ total f (ids (sends h))
-    together =
+    pub everywhere-split : total f (everywhere h s) ≡ places
+    everywhere-split =
         total-append f (droppedFull h) _
         ∙ ap (λ (c : ℕ). total f (droppedFull h) + c)
         (total-append f (map idOf (waitingItems s)) _
@@ -137,15 +130,26 @@ module _ (f : PacketId → ℕ) (h : List TickRecord) where
         ∙ ap (λ (c : ℕ). total f (lost h) + c)
         (total-append f (counted h) _
         ∙ ap (λ (c : ℕ). total f (counted h) + c) (total-append f (old h) (ignored h))))))
-        ∙ sym partition
+
+    -- every packet sent is in one of them
+    pub partition : ids (admissions h) ≡ ids (starts h) ++ map idOf (waitingItems s)
+        → ids (starts h) ≡ ids (leaves h) ++ map (λ x. idOf (x .packet)) (onLineItems s)
+        → total f (ids (sends h)) ≡ places
+    partition admitted started =
+        let begun : total f (ids (admissions h)) ≡ total f (ids (starts h)) + total f (map idOf (waitingItems s)) =
+        ap (total f) admitted ∙ total-append f (ids (starts h)) (map idOf (waitingItems s)) in
+        let left : total f (ids (starts h)) ≡ total f (ids (leaves h)) + total f (map idOf (onLinePackets s)) =
+        ap (total f) (started ∙ ap (λ (l : List PacketId). ids (leaves h) ++ l) (sym (map-map idOf (λ x. x .packet) (onLineItems s))))
+        ∙ total-append f (ids (leaves h)) (map idOf (onLinePackets s)) in
+        omega (arith, sends-split, begun, left, leaves-split)
 
 pub account : (n : RemyNetwork) (h : List TickRecord) (s : Simulation) → KeptAt n h s → Account n h s
 account n h s k =
     record {
       network = k .network;
       sent = λ i below. k .sends i ∙ sends-split (ofSender i) h;
-      books = λ i below. let all = partition (ofSender i) h k in omega (arith, k .sends i, all);
-      once = λ i m. together (isPacket i m) h k ∙ k .once i m;
+      books = λ i below. let all = partition (ofSender i) h s (k .line .starts) (k .line .leaves) in omega (arith, k .sends i, all);
+      once = λ i m. everywhere-split (isPacket i m) h s ∙ sym (partition (isPacket i m) h s (k .line .starts) (k .line .leaves)) ∙ k .once i m;
       meter = k .meter;
       line = line-account (k .line);
     }

@@ -1,0 +1,219 @@
+-- Each clause of the account has a history and a last state that it alone refuses: the refutation cites that clause and no other. Assumes nothing.
+use mathlib.Core.Path.{_≡_, refl, ap, subst}
+use mathlib.Core.Bool.{true, true≢false, false≢true}
+use mathlib.Core.List.{List, [], _∷_}
+use Prim.Native.Nat.{ℕ, zero, suc, _≤_, _<_}
+use native.Mathlib.Omega.{arith}
+use lib.ListN.{getD}
+use lib.Ieee.{eq}
+use Rattle.quantities.specs.Doubles.{zeroF}
+use Rattle.remy.specs.declared.network.RemyNetwork.{RemyNetwork}
+use Rattle.remy.specs.declared.simulation.Simulation.{Simulation}
+use Rattle.remy.specs.declared.simulation.Mark.the-variants as Mark
+use Rattle.remy.specs.State.{noTime, senderAt}
+use Rattle.remy.specs.Build.{buildOf}
+use Rattle.remy.specs.History.{after, history, Fresh, PacketId}
+use Rattle.remy.specs.Account.{everywhere, Account}
+use Rattle.remy.proofs.Account.{demand3}
+use Rattle.remy.proofs.Opened.{doubles, ticking}
+use Rattle.points.specs.Points.{Hold}
+use Rattle.points.specs.Counted.{calls}
+use Rattle.points.specs.Unfit.{three}
+use Rattle.points.specs.Refuted.{Case, network, sent, books, once, meter, starts, leaves, arrival, spacing, bits, limit, Says, Others, Accounted, Refuted, plan, ten, tenth, anotherNetwork, unrecorded, mislaid, recordedTwice, passedOver, overtaken, late, tooClose, talliedTwice, overfull, numbered, neverSent, refutations}
+use Rattle.points.proofs.Claims.{_and_}
+use Rattle.points.proofs.Once.{eachOnce, once-by}
+use Rattle.points.proofs.Follows.{books-follows, sent-follows}
+
+-- ---- the clauses and the account
+
+says-all : (k : Case) → Accounted k → Others [] k
+says-all k a =
+    a .network
+    and a .sent
+    and a .books
+    and a .once
+    and a .meter
+    and a .line .starts
+    and a .line .leaves
+    and a .line .arrival
+    and a .line .spacing
+    and a .line .bits
+    and a .line .limit
+    and tt
+
+all-said : (k : Case) → Others [] k → Accounted k
+all-said k o =
+    let line = o .1 .1 .1 .1 .1 in
+    record {
+      network = o .0;
+      sent = o .1 .0;
+      books = o .1 .1 .0;
+      once = o .1 .1 .1 .0;
+      meter = o .1 .1 .1 .1 .0;
+      line =
+          record {
+            starts = line .0;
+            leaves = line .1 .0;
+            arrival = line .1 .1 .0;
+            spacing = line .1 .1 .1 .0;
+            bits = line .1 .1 .1 .1 .0;
+            limit = line .1 .1 .1 .1 .1 .0;
+          };
+    }
+
+-- ---- ten ticks
+
+plan-fresh : Fresh plan (buildOf plan 1 .simulation)
+unfolding ticking
+plan-fresh = (1, refl)
+
+ten-noted : history (calls 10) (buildOf plan 1 .simulation) ≡ ten
+unfolding ticking
+ten-noted = refl
+
+ten-done : after (calls 10) (buildOf plan 1 .simulation) ≡ tenth
+unfolding ticking tenth
+ten-done = refl
+
+ten-account : Account plan ten tenth
+ten-account =
+    subst (λ (s : Simulation). Account plan ten s) ten-done
+    (subst (λ h. Account plan h (after (calls 10) (buildOf plan 1 .simulation))) ten-noted (demand3 plan (buildOf plan 1 .simulation) plan-fresh (calls 10)))
+
+-- ---- the clauses that hold are computed
+
+-- there is one sender, sender 0
+only : (P : ℕ → Type 0) → P 0 → (i : ℕ) → i < 1 → P i
+only P p zero below = p
+only P p (suc i) below = absurd (omega arith)
+
+-- where each of a case's packets is exactly once
+once-in : (k : Case) → eachOnce (k .network .senders) (λ i. senderAt (k .last) i .«packets_sent») (everywhere (k .past) (k .last)) ≡ true → Says (k .network) (k .past) (k .last) once
+once-in k each i m = once-by (k .network .senders) (λ i. senderAt (k .last) i .«packets_sent») i m (everywhere (k .past) (k .last)) each
+
+-- ---- the refutations, each by the clause that is broken
+
+-- the number of the packet at a place of a list, and the time at one
+abbrev seqAt : ℕ → List PacketId → ℕ
+seqAt p l = getD l p (record { sender = 0; seq = 0 }) .seq
+
+network-refutes : Refuted (network ∷ []) anotherNetwork
+unfolding doubles tenth
+network-refutes =
+    (λ a. true≢false (ap (λ n. eq (n .loss) zeroF) (a .network)))
+    and only _ refl and only _ refl and once-in anotherNetwork refl and only _ refl
+    and refl and refl and refl and (tt, (tt, tt)) and refl and omega arith and tt
+
+meter-refutes : Refuted (meter ∷ []) recordedTwice
+unfolding doubles tenth
+meter-refutes =
+    (λ a. let e : 2 ≡ 1 = a .meter 0 (omega arith) in omega (arith, e))
+    and refl and only _ refl and only _ refl and once-in recordedTwice refl
+    and refl and refl and refl and (tt, (tt, tt)) and refl and omega arith and tt
+
+starts-refutes : Refuted (starts ∷ []) passedOver
+unfolding doubles tenth
+starts-refutes =
+    (λ a. let e : 4 ≡ 5 = ap (seqAt 3) (a .line .starts) in omega (arith, e))
+    and refl and only _ refl and only _ refl and once-in passedOver refl and only _ refl
+    and refl and refl and (tt, (tt, tt)) and refl and omega arith and tt
+
+leaves-refutes : Refuted (leaves ∷ []) overtaken
+unfolding doubles tenth
+leaves-refutes =
+    (λ a. let e : 2 ≡ 3 = ap (seqAt 1) (a .line .leaves) in omega (arith, e))
+    and refl and only _ refl and only _ refl and once-in overtaken refl and only _ refl
+    and refl and refl and (tt, (tt, tt)) and refl and omega arith and tt
+
+arrival-refutes : Refuted (arrival ∷ []) late
+unfolding doubles tenth
+arrival-refutes =
+    (λ a. false≢true (ap (λ l. eq (getD l 0 noTime .0 .0) three) (a .line .arrival)))
+    and refl and only _ refl and only _ refl and once-in late refl and only _ refl
+    and refl and refl and (tt, (tt, tt)) and refl and omega arith and tt
+
+spacing-refutes : Refuted (spacing ∷ []) tooClose
+unfolding doubles tenth
+spacing-refutes =
+    (λ a. a .line .spacing .0)
+    and refl and only _ refl and only _ refl and once-in tooClose refl and only _ refl
+    and refl and refl and refl and refl and omega arith and tt
+
+bits-refutes : Refuted (bits ∷ []) talliedTwice
+unfolding doubles tenth
+bits-refutes =
+    (λ a. let e : 24 ≡ 16 = a .line .bits in omega (arith, e))
+    and refl and only _ refl and only _ refl and once-in talliedTwice refl and only _ refl
+    and refl and refl and refl and (tt, (tt, tt)) and omega arith and tt
+
+limit-refutes : Refuted (limit ∷ []) overfull
+unfolding doubles tenth
+limit-refutes =
+    (λ a. let e : 16 ≤ 8 = a .line .limit in omega (arith, e))
+    and refl and only _ refl and only _ refl and once-in overfull refl and only _ refl
+    and refl and refl and refl and (tt, (tt, tt)) and refl and tt
+
+books-refutes : Refuted (books ∷ once ∷ starts ∷ []) mislaid
+unfolding doubles tenth
+books-refutes =
+    (λ a. let e : 6 ≡ 5 = a .books 0 (omega arith) in omega (arith, e))
+    and refl and only _ refl and only _ refl
+    and refl and refl and (tt, (tt, tt)) and refl and omega arith and tt
+
+sent-refutes : Refuted (sent ∷ starts ∷ []) unrecorded
+unfolding doubles tenth
+sent-refutes =
+    (λ a. let e : 6 ≡ 5 = a .sent 0 (omega arith) in omega (arith, e))
+    and refl and only _ refl and once-in unrecorded refl and only _ refl
+    and refl and refl and (tt, (tt, tt)) and refl and omega arith and tt
+
+-- ---- `once`: the packet that it is asked of
+
+-- whatever the packets' numbers are, the other clauses hold
+module _ (a b c d e f : ℕ) where
+  counted-others : Others (once ∷ []) (numbered a b c d e f Mark.Counted 1)
+  unfolding doubles tenth
+  counted-others = refl and only _ refl and only _ refl and only _ refl and refl and refl and refl and (tt, (tt, tt)) and refl and omega arith and tt
+
+  lost-others : Others (once ∷ []) (numbered a b c d e f Mark.Lost 0)
+  unfolding doubles tenth
+  lost-others = refl and only _ refl and only _ refl and only _ refl and refl and refl and refl and (tt, (tt, tt)) and refl and omega arith and tt
+
+  old-others : Others (once ∷ []) (numbered a b c d e f Mark.Old 0)
+  unfolding doubles tenth
+  old-others = refl and only _ refl and only _ refl and only _ refl and refl and refl and refl and (tt, (tt, tt)) and refl and omega arith and tt
+
+  ignored-others : Others (once ∷ []) (numbered a b c d e f Mark.Ignored 0)
+  unfolding doubles tenth
+  ignored-others = refl and only _ refl and only _ refl and only _ refl and refl and refl and refl and (tt, (tt, tt)) and refl and omega arith and tt
+
+never-sent-others : Others (once ∷ []) neverSent
+unfolding doubles tenth
+never-sent-others = refl and only _ refl and only _ refl and only _ refl and refl and refl and refl and (tt, (tt, tt)) and refl and omega arith and tt
+
+-- ---- what the account speaks of
+
+every-build : (n : RemyNetwork) (seed : ℕ) → buildOf n seed .number ≡ 0 → Fresh n (buildOf n seed .simulation)
+every-build n seed done = (seed, ap (λ k. record { number = k; simulation = buildOf n seed .simulation }) done)
+
+-- a line for each comment of the list
+pub refutations-hold : Hold refutations
+unfolding tenth
+refutations-hold =
+    says-all and all-said
+    and plan-fresh and ten-noted and ten-done and ten-account
+    and network-refutes and meter-refutes and starts-refutes and leaves-refutes and arrival-refutes and spacing-refutes and bits-refutes and limit-refutes
+    and ((λ k. let twice : 2 ≡ 1 = k .once 0 5 in omega (arith, twice)), counted-others 1 2 3 4 5 5)
+    and ((λ k. let twice : 2 ≡ 1 = k .once 0 3 in omega (arith, twice)), counted-others 1 2 3 3 5 6)
+    and ((λ k. let twice : 2 ≡ 1 = k .once 0 3 in omega (arith, twice)), counted-others 1 2 3 4 5 3)
+    and ((λ k. let twice : 2 ≡ 1 = k .once 0 2 in omega (arith, twice)), lost-others 2 2 3 4 5 6)
+    and ((λ k. let twice : 2 ≡ 1 = k .once 0 2 in omega (arith, twice)), counted-others 2 2 3 4 5 6)
+    and ((λ k. let twice : 2 ≡ 1 = k .once 0 2 in omega (arith, twice)), old-others 2 2 3 4 5 6)
+    and ((λ k. let twice : 2 ≡ 1 = k .once 0 2 in omega (arith, twice)), ignored-others 2 2 3 4 5 6)
+    and ((λ k. let absent : 0 ≡ 1 = k .once 0 6 in omega (arith, absent)), counted-others 1 2 3 4 5 7)
+    and ((λ k. let there : 1 ≡ 0 = k .once 1 1 in omega (arith, there)), never-sent-others)
+    and books-follows and sent-follows and books-refutes and sent-refutes
+    and every-build
+    and (λ s. refl) and (λ s cs moved. rw moved) and (λ s cs stayed. rw stayed)
+    and (λ s. refl) and (λ s cs. refl)
+    and tt

@@ -1,0 +1,366 @@
+-- The account of packets, clause by clause: for each clause of `Account` and `LineAccount` a history and a last state of which there is no account because of
+-- that clause. Each is the history and the state that ten ticks gave, with one thing changed, and every clause that is not named holds of it.
+use mathlib.Core.Path.{_≡_}
+use mathlib.Core.Bool.{Bool, true, false, _||_, _&&_, cond}
+use mathlib.Core.List.{List, [], _∷_, _++_, map}
+use Prim.Native.Nat.{ℕ, _+_, _<_}
+use lib.IntN.{pos, negsuc}
+use lib.ListN.{length, take, set, replicate}
+use lib.Dec.{ltb, eqb}
+use lib.Ieee.{Float, fin}
+use Rattle.quantities.specs.declared.time.OptionTime.the-variants.{None, Some}
+use Rattle.quantities.specs.Doubles.{zeroF, power}
+use Rattle.quantities.specs.Units.{spanOf, timeOf, amountOf, rateOf, amountOverRate}
+use Rattle.quantities.specs.Units.{after as spanAfter}
+use Rattle.rand.specs.declared.distribution.ContinuousDistribution.the-variants.{Always}
+use Rattle.rand.specs.Generator.{fromWords}
+use Rattle.meters.specs.Meter.{newMeter}
+use Rattle.components.specs.declared.link.Limit.{Limit}
+use Rattle.components.specs.declared.link.Limit.the-variants as Limit
+use Rattle.components.specs.declared.lossy.Policy.the-variants.{Held}
+use Rattle.components.specs.declared.lossy.SenderState.the-variants as State
+use Rattle.components.specs.Queue.{noQueued}
+use Rattle.remy.specs.declared.network.RemyNetwork.{RemyNetwork}
+use Rattle.remy.specs.declared.simulation.Mark.{Mark}
+use Rattle.remy.specs.declared.simulation.Mark.the-variants as Mark
+use Rattle.remy.specs.declared.simulation.Name.{Name}
+use Rattle.remy.specs.declared.simulation.Name.the-variants as Name
+use Rattle.remy.specs.declared.simulation.Next.the-variants as Next
+use Rattle.remy.specs.declared.simulation.Simulation.{Simulation}
+use Rattle.remy.specs.declared.simulation.TickRecord.{TickRecord}
+use Rattle.remy.specs.Network.{between}
+use Rattle.remy.specs.State.{senderAt, meterAt, waitingItems, onLineItems, onLinePackets, senderBits, packetBits, totalBits, withLine, withWaiting, withOnLine, withMeter}
+use Rattle.remy.specs.Build.{newSender, zeroWords, blankPacket, blankTransit, blankToggler, buildOf}
+use Rattle.remy.specs.Tick.{tickOf}
+use Rattle.remy.specs.History.{Call, tick, after, history, Fresh, idOf, ids, times, admissions, droppedFull, lost, counted, old, ignored}
+use Rattle.remy.specs.History.{starts as startsIn, leaves as leavesIn}
+use Rattle.remy.specs.Account.{total, ofSender, isPacket, everywhere, Spaced, Limited, Account}
+use Rattle.points.specs.Counted.{calls}
+use Rattle.points.specs.Unfit.{three, toggleTime, packetOf, transitOf, withNetwork}
+
+-- ---- a network, a history and a last state, and what each clause of the account says of them
+
+pub record Case : Type 0 where
+  pub network : RemyNetwork
+  pub past : List TickRecord
+  pub last : Simulation
+
+pub data Clause : Type 0 where
+  network sent books once meter : Clause
+  starts leaves arrival spacing bits limit : Clause
+
+abbrev pub clauses : List Clause
+clauses = network ∷ sent ∷ books ∷ once ∷ meter ∷ starts ∷ leaves ∷ arrival ∷ spacing ∷ bits ∷ limit ∷ []
+
+abbrev pub Says : RemyNetwork → List TickRecord → Simulation → Clause → Type 0
+Says n h s network = s .network ≡ n
+Says n h s sent = (i : ℕ) → i < n .senders → senderAt s i .«packets_sent» ≡ total (ofSender i) (ids (admissions h)) + total (ofSender i) (droppedFull h)
+Says n h s books =
+    (i : ℕ) → i < n .senders
+    → senderAt s i .«packets_sent»
+    ≡ total (ofSender i) (droppedFull h)
+    + total (ofSender i) (map idOf (waitingItems s))
+    + total (ofSender i) (map idOf (onLinePackets s))
+    + total (ofSender i) (lost h)
+    + total (ofSender i) (counted h)
+    + total (ofSender i) (old h)
+    + total (ofSender i) (ignored h)
+Says n h s once = (i m : ℕ) → total (isPacket i m) (everywhere h s) ≡ cond (ltb i (n .senders) && between 1 (senderAt s i .«packets_sent») m) 1 0
+Says n h s meter = (i : ℕ) → i < n .senders → meterAt s i .records ≡ total (ofSender i) (counted h)
+Says n h s starts = ids (admissions h) ≡ ids (startsIn h) ++ map idOf (waitingItems s)
+Says n h s leaves = ids (startsIn h) ≡ ids (leavesIn h) ++ map (λ x. idOf (x .packet)) (onLineItems s)
+Says n h s arrival = times (leavesIn h) ≡ map (λ t. spanAfter t (spanOf (n .delay))) (take (length (leavesIn h)) (times (startsIn h)))
+Says n h s spacing = Spaced (λ x. amountOverRate (senderBits n (x .sender)) (rateOf (n .rate))) (startsIn h)
+Says n h s bits = s .line .«buffer_contains» .0 ≡ totalBits (λ p. packetBits n p .0) (waitingItems s)
+Says n h s limit = Limited (n .limit) (s .line .«buffer_contains» .0)
+
+-- clauses by their places, and whether one is in a list
+abbrev pub placeOf : Clause → ℕ
+placeOf network = 0
+placeOf sent = 1
+placeOf books = 2
+placeOf once = 3
+placeOf meter = 4
+placeOf starts = 5
+placeOf leaves = 6
+placeOf arrival = 7
+placeOf spacing = 8
+placeOf bits = 9
+placeOf limit = 10
+
+abbrev pub isIn : List Clause → Clause → Bool
+isIn [] c = false
+isIn (x ∷ xs) c = eqb (placeOf x) (placeOf c) || isIn xs c
+
+-- every clause that is not in the list holds, of those from here on
+abbrev pub OthersOf : List Clause → Case → List Clause → Type 0
+OthersOf but k [] = Unit {0}
+OthersOf but k (c ∷ cs) = cond (isIn but c) (OthersOf but k cs) (Says (k .network) (k .past) (k .last) c × OthersOf but k cs)
+
+abbrev pub Others : List Clause → Case → Type 0
+Others but k = OthersOf but k clauses
+
+abbrev pub Accounted : Case → Type 0
+Accounted k = Account (k .network) (k .past) (k .last)
+
+-- there is no account, and every clause but these holds
+abbrev pub Refuted : List Clause → Case → Type 0
+Refuted by k = (Accounted k → ⊥) × Others by k
+
+-- ---- ten ticks
+
+-- delay 2, rate 8, this loss, this limit, bits 8, one sender, on always 100, off always 1, held 6
+abbrev pub networkWith : Float → Limit → RemyNetwork
+networkWith loss most =
+    record {
+      delay = power 1;
+      rate = power 3;
+      loss = loss;
+      limit = most;
+      bits = 8;
+      senders = 1;
+      on = Always (fin false 25 (pos 2));
+      off = Always (power 0);
+      policy = Held 6;
+    }
+
+abbrev pub plan : RemyNetwork
+plan = networkWith zeroF (Limit.Bits 32)
+
+abbrev pub its : ℕ → Name
+its m = Name.Packet 0 m
+
+abbrev pub none : Name
+none = Name.None
+
+abbrev pub at : Float → ℕ → Mark → Name → Name → TickRecord
+at time part mark packet started = record { time = timeOf time; part = part; mark = mark; packet = packet; started = started }
+
+-- A history: the sender is switched on and sends the packets a to e, and f is dropped full. Packet a starts at 1, b at this time and c at that;
+-- when c starts, a leaves with a mark.
+abbrev pub historyWith : ℕ → ℕ → ℕ → ℕ → ℕ → ℕ → Float → Float → Mark → List TickRecord
+historyWith a b c d e f second third left =
+    at (power 0) 2 Mark.Enabled none none
+    ∷ at (power 0) 1 Mark.Sent (its a) none
+    ∷ at (power 0) 0 Mark.None none (its a)
+    ∷ at (power 0) 1 Mark.Sent (its b) none
+    ∷ at (power 0) 1 Mark.Sent (its c) none
+    ∷ at (power 0) 1 Mark.Sent (its d) none
+    ∷ at (power 0) 1 Mark.Sent (its e) none
+    ∷ at (power 0) 1 Mark.Full (its f) none
+    ∷ at second 0 Mark.None none (its b)
+    ∷ at third 0 left (its a) (its c)
+    ∷ []
+
+-- 0:1 is counted at 3, 0:2 and 0:3 are on the line, 0:4 and 0:5 wait, 0:6 was dropped full
+abbrev pub ten : List TickRecord
+ten = historyWith 1 2 3 4 5 6 (power 1) three Mark.Counted
+
+-- the state then: clock 3, the sender next
+unfoldable pub tenth : Simulation
+tenth =
+    record {
+      network = plan;
+      head = record { clock = timeOf three; next = Next.Part 1 };
+      line =
+          record {
+            «earliest_transmit» = timeOf (power 2);
+            «buffer_contains» = amountOf 16;
+            waiting = record { start = 3; count = 2 };
+            «on_line» = record { start = 1; count = 2 };
+            rng = fromWords 14956314531195876544 7576440072486442806 6053824538967488443 6254198100547973758;
+          };
+      waiting =
+          packetOf 0 1 (power 0)
+          ∷ packetOf 0 2 (power 0)
+          ∷ packetOf 0 3 (power 0)
+          ∷ packetOf 0 4 (power 0)
+          ∷ packetOf 0 5 (power 0)
+          ∷ replicate 507 blankPacket;
+      «on_line» =
+          transitOf (packetOf 0 1 (power 0)) three
+          ∷ transitOf (packetOf 0 2 (power 0)) (power 2)
+          ∷ transitOf (packetOf 0 3 (power 0)) (fin false 5 (pos 0))
+          ∷ replicate 509 blankTransit;
+      senders =
+          record {
+            «packets_sent» = 6;
+            state = State.Enabled (record { started = timeOf (power 0); «greatest_ack» = 1; cwnd = 6; timer = None });
+            rng = fromWords 3406718355780431780 10892412867582108485 18204613561675945223 9655336933892813345;
+          }
+          ∷ replicate 15 (newSender zeroWords);
+      togglers =
+          record {
+            enabled = true;
+            «next_toggle» = timeOf toggleTime;
+            rng = fromWords 1781989159761824720 2477283028068920342 16978024111547606601 6336475467619303347;
+          }
+          ∷ replicate 15 blankToggler;
+      meters =
+          record { «total_time» = spanOf zeroF; «current_start» = Some (timeOf (power 0)); total = amountOf 8; records = 1; «rtt_sum» = spanOf (power 1) }
+          ∷ replicate 15 newMeter;
+      queue =
+          record { time = Some (timeOf (power 2)) }
+          ∷ noQueued
+          ∷ record { time = Some (timeOf toggleTime) }
+          ∷ replicate 30 noQueued;
+    }
+
+-- ---- one thing changed
+
+abbrev pub caseOf : List TickRecord → Simulation → Case
+caseOf h s = record { network = plan; past = h; last = s }
+
+-- a line with these waiting bits, and so many packets that wait
+abbrev pub waitingWith : ℕ → ℕ → Simulation
+waitingWith contains count =
+    withLine tenth
+    (record {
+      «earliest_transmit» = tenth .line .«earliest_transmit»;
+      «buffer_contains» = amountOf contains;
+      waiting = record { start = 3; count = count };
+      «on_line» = tenth .line .«on_line»;
+      rng = tenth .line .rng;
+    })
+
+-- packets d and e wait; b and c are on the line
+abbrev pub waitingAre : Simulation → ℕ → ℕ → Simulation
+waitingAre s d e = withWaiting s (set (set (s .waiting) 3 (packetOf 0 d (power 0))) 4 (packetOf 0 e (power 0)))
+
+abbrev pub onLineAre : Simulation → ℕ → ℕ → Simulation
+onLineAre s b c = withOnLine s (set (set (s .«on_line») 1 (transitOf (packetOf 0 b (power 0)) (power 2))) 2 (transitOf (packetOf 0 c (power 0)) (fin false 5 (pos 0))))
+
+-- so many records in the sender's meter
+abbrev pub recordsAre : Simulation → ℕ → Simulation
+recordsAre s x =
+    withMeter s 0
+    (record { «total_time» = spanOf zeroF; «current_start» = Some (timeOf (power 0)); total = amountOf 8; records = x; «rtt_sum» = spanOf (power 1) })
+
+-- the network at hand has another loss, which no other clause reads
+abbrev pub anotherNetwork : Case
+anotherNetwork = record { network = networkWith (power 0) (Limit.Bits 32); past = ten; last = tenth }
+
+-- the S record of 0:5 is missing, though it waits
+abbrev pub unrecorded : Case
+unrecorded =
+    caseOf
+    (at (power 0) 1 Mark.Sent (its 1) none
+    ∷ at (power 0) 0 Mark.None none (its 1)
+    ∷ at (power 0) 1 Mark.Sent (its 2) none
+    ∷ at (power 0) 1 Mark.Sent (its 3) none
+    ∷ at (power 0) 1 Mark.Sent (its 4) none
+    ∷ at (power 0) 1 Mark.Full (its 6) none
+    ∷ at (power 1) 0 Mark.None none (its 2)
+    ∷ at three 0 Mark.Counted (its 1) (its 3)
+    ∷ [])
+    tenth
+
+-- 0:5 is gone from the queue
+abbrev pub mislaid : Case
+mislaid = caseOf ten (waitingWith 8 1)
+
+-- the meter has a second record of the packet that was counted
+abbrev pub recordedTwice : Case
+recordedTwice = caseOf ten (recordsAre tenth 2)
+
+-- 0:5 waits before 0:4
+abbrev pub passedOver : Case
+passedOver = caseOf ten (waitingAre tenth 5 4)
+
+-- 0:3 is before 0:2 on the line
+abbrev pub overtaken : Case
+overtaken = caseOf ten (onLineAre tenth 3 2)
+
+-- 0:1 leaves at 4, three seconds after its start
+abbrev pub late : Case
+late = caseOf (historyWith 1 2 3 4 5 6 (power 1) (power 2) Mark.Counted) tenth
+
+-- 0:2 starts at 1.5, half a second after 0:1
+abbrev pub tooClose : Case
+tooClose = caseOf (historyWith 1 2 3 4 5 6 (fin false 3 (negsuc 0)) three Mark.Counted) tenth
+
+-- the bits of a packet were added to the tally a second time
+abbrev pub talliedTwice : Case
+talliedTwice = caseOf ten (waitingWith 24 2)
+
+-- two packets of 8 bits wait at a limit of 8
+abbrev pub overfull : Case
+overfull = record { network = networkWith zeroF (Limit.Bits 8); past = ten; last = withNetwork tenth (networkWith zeroF (Limit.Bits 8)) }
+
+-- ---- packets in two places, in none, and never sent
+
+-- As it was, but for the packets' numbers and the mark: 0:a left with it, 0:b and 0:c are on the line, 0:d and 0:e wait, 0:f was dropped full. The meter has so
+-- many records.
+abbrev pub numbered : ℕ → ℕ → ℕ → ℕ → ℕ → ℕ → Mark → ℕ → Case
+numbered a b c d e f mark records = caseOf (historyWith a b c d e f (power 1) three mark) (recordsAre (onLineAre (waitingAre tenth d e) b c) records)
+
+-- 0:5 was dropped full, and waits
+abbrev pub fullAndWaiting : Case
+fullAndWaiting = numbered 1 2 3 4 5 5 Mark.Counted 1
+
+-- 0:3 waits, and is on the line
+abbrev pub waitingAndOnLine : Case
+waitingAndOnLine = numbered 1 2 3 3 5 6 Mark.Counted 1
+
+-- 0:3 is on the line, and was dropped full
+abbrev pub onLineAndFull : Case
+onLineAndFull = numbered 1 2 3 4 5 3 Mark.Counted 1
+
+-- 0:2 left the line with this mark, and is on it
+abbrev pub leftAndOnLine : Mark → ℕ → Case
+leftAndOnLine mark records = numbered 2 2 3 4 5 6 mark records
+
+-- 0:7 was dropped full, and 0:6 is nowhere
+abbrev pub nowhere : Case
+nowhere = numbered 1 2 3 4 5 7 Mark.Counted 1
+
+-- a packet of a sender that is not there was dropped full
+abbrev pub neverSent : Case
+neverSent = caseOf (ten ++ at three 1 Mark.Full (Name.Packet 1 1) none ∷ []) tenth
+
+-- ---- the claims
+
+abbrev pub refutations : List (Type 0)
+refutations =
+    -- What the clauses say is the account, all of it and no more.
+    ((k : Case) → Accounted k → Others [] k)
+    ∷ ((k : Case) → Others [] k → Accounted k)
+    -- The ten ticks are those of a fresh simulation, so there is an account of them.
+    ∷ Fresh plan (buildOf plan 1 .simulation)
+    ∷ (history (calls 10) (buildOf plan 1 .simulation) ≡ ten)
+    ∷ (after (calls 10) (buildOf plan 1 .simulation) ≡ tenth)
+    ∷ Account plan ten tenth
+    -- One clause is broken and all others hold.
+    ∷ Refuted (network ∷ []) anotherNetwork
+    ∷ Refuted (meter ∷ []) recordedTwice
+    ∷ Refuted (starts ∷ []) passedOver
+    ∷ Refuted (leaves ∷ []) overtaken
+    ∷ Refuted (arrival ∷ []) late
+    ∷ Refuted (spacing ∷ []) tooClose
+    ∷ Refuted (bits ∷ []) talliedTwice
+    ∷ Refuted (limit ∷ []) overfull
+    -- So it is with `once`: a packet in each of the seven places and elsewhere, a packet in none, and one that was never sent.
+    ∷ Refuted (once ∷ []) fullAndWaiting
+    ∷ Refuted (once ∷ []) waitingAndOnLine
+    ∷ Refuted (once ∷ []) onLineAndFull
+    ∷ Refuted (once ∷ []) (leftAndOnLine Mark.Lost 0)
+    ∷ Refuted (once ∷ []) (leftAndOnLine Mark.Counted 1)
+    ∷ Refuted (once ∷ []) (leftAndOnLine Mark.Old 0)
+    ∷ Refuted (once ∷ []) (leftAndOnLine Mark.Ignored 0)
+    ∷ Refuted (once ∷ []) nowhere
+    ∷ Refuted (once ∷ []) neverSent
+    -- `books` follows from `once`, and `sent` from `once`, `starts` and `leaves`: where one of them is broken, so is another.
+    ∷ ((n : RemyNetwork) (h : List TickRecord) (s : Simulation) → Says n h s once → Says n h s books)
+    ∷ ((n : RemyNetwork) (h : List TickRecord) (s : Simulation) → Says n h s once → Says n h s starts → Says n h s leaves → Says n h s sent)
+    ∷ Refuted (books ∷ once ∷ starts ∷ []) mislaid
+    ∷ Refuted (sent ∷ starts ∷ []) unrecorded
+    -- Fresh is the state that an unrefused build returned: every one, of every network and at every seed.
+    ∷ ((n : RemyNetwork) (seed : ℕ) → buildOf n seed .number ≡ 0 → Fresh n (buildOf n seed .simulation))
+    -- The history is the records of ticks that moved since the build: each of them, in order, and no others.
+    ∷ ((s : Simulation) → history [] s ≡ [])
+    ∷ ((s : Simulation) (cs : List Call) → tickOf s .moved ≡ true → history (tick ∷ cs) s ≡ tickOf s .note ∷ history cs (tickOf s .simulation))
+    ∷ ((s : Simulation) (cs : List Call) → tickOf s .moved ≡ false → history (tick ∷ cs) s ≡ history cs (tickOf s .simulation))
+    -- Each call is given the state that the one before it returned, refused and idle ones included.
+    ∷ ((s : Simulation) → after [] s ≡ s)
+    ∷ ((s : Simulation) (cs : List Call) → after (tick ∷ cs) s ≡ after cs (tickOf s .simulation))
+    ∷ []
