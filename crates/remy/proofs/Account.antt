@@ -23,7 +23,7 @@ use Rattle.remy.specs.History.{Call, tick, called, after, noted, history
 use Rattle.remy.specs.Account.{total, ofSender, isPacket, everywhere, Account, Demand3}
 use Rattle.remy.proofs.Lists.{map-append, entries-append, starts-append, total-append, entries-either}
 use Rattle.remy.proofs.Lines.{line-account}
-use Rattle.remy.proofs.Facts.{fit-state}
+use Rattle.remy.proofs.Facts.{FitState, fit-state}
 use Rattle.remy.proofs.Kept.{Kept, kept-lists}
 use Rattle.remy.proofs.Steps.{cond-elim}
 use Rattle.remy.proofs.Outcomes.{OnMoves}
@@ -52,23 +52,28 @@ module _ (n : RemyNetwork) where
       (sym (entries-append (λ x. isS x || isF x) h (r ∷ [])))
       (sym (ap ids (entries-append isC h (r ∷ [])) ∙ map-append (λ e. e .packet) (entries isC h) (entries isC (r ∷ [])))) g
 
-tick-keeps : (h : List TickRecord) (s : Simulation) → KeptAt (s .network) h s → KeptBy (s .network) h (tickOf s)
+-- a tick: it does not move, or it is the turn of the next part of a fit state
+pub tick-elim : (F : Ticked → Type 0) (s : Simulation) → ((number : ℕ) → F (unmoved s number))
+    → (FitState s → lt (power 40) (s .head .clock .0 .0) ≡ false → (j : ℕ) → F (ticked s (outcomeOf s (roleOf (s .network .senders) j))))
+    → F (tickOf s)
 unfolding tickOf
-tick-keeps h s k =
-    cond-elim (KeptBy (s .network) h) (fit s) (tickNext s (s .head .next)) (unmoved s 9)
-    (λ e. with-next (s .head .next) e)
-    (λ e. unmoved-keeps (s .network) h s 9 k)
+tick-elim F s rests goes = cond-elim F (fit s) (tickNext s (s .head .next)) (unmoved s 9) (with-next (s .head .next)) (λ unfit. rests 9)
   where
-    with-next : (x : Next) → fit s ≡ true → KeptBy (s .network) h (tickNext s x)
-    with-next Next.None e = unmoved-keeps (s .network) h s 0 k
+    with-next : (x : Next) → fit s ≡ true → F (tickNext s x)
+    with-next Next.None e = rests 0
     with-next (Next.Part j) e =
-        cond-elim (KeptBy (s .network) h) (lt (power 40) (s .head .clock .0 .0)) (unmoved s 10) (ticked s (outcomeOf s (roleOf (s .network .senders) j)))
-        (λ late. unmoved-keeps (s .network) h s 10 k)
-        (λ early. outcome-keeps (s .network) h s (outcomeOf s (roleOf (s .network .senders) j)) k (turn-good (fit-state s e) early k j))
+        cond-elim F (lt (power 40) (s .head .clock .0 .0)) (unmoved s 10) (ticked s (outcomeOf s (roleOf (s .network .senders) j)))
+        (λ late. rests 10)
+        (λ early. goes (fit-state s e) early j)
+
+tick-keeps : (h : List TickRecord) (s : Simulation) → KeptAt (s .network) h s → KeptBy (s .network) h (tickOf s)
+tick-keeps h s k =
+    tick-elim (KeptBy (s .network) h) s (λ number. unmoved-keeps (s .network) h s number k)
+    (λ f early j. outcome-keeps (s .network) h s (outcomeOf s (roleOf (s .network .senders) j)) k (turn-good f early k j))
 
 -- ---- every list of calls
 
-call-keeps : (n : RemyNetwork) (c : Call) (h : List TickRecord) (s : Simulation) → KeptAt n h s → KeptAt n (h ++ noted (called c s) []) (called c s .simulation)
+pub call-keeps : (n : RemyNetwork) (c : Call) (h : List TickRecord) (s : Simulation) → KeptAt n h s → KeptAt n (h ++ noted (called c s) []) (called c s .simulation)
 call-keeps n tick h s k =
     let own : KeptAt (s .network) h s = subst (λ (m : RemyNetwork). KeptAt m h s) (sym (k .network)) k in
     subst (λ (m : RemyNetwork). KeptAt m (h ++ noted (tickOf s) []) (tickOf s .simulation)) (k .network) (tick-keeps h s own)
@@ -94,7 +99,7 @@ calls-keep n (c ∷ cs) h s k =
 letters : (a b : ℕ) → (a ≡ b → ⊥) → (m : Mark) → eqb (letterOf m) a ≡ true → eqb (letterOf m) b ≡ true → ⊥
 letters a b apart m p q = apart (sym (eqb-true (letterOf m) a p) ∙ eqb-true (letterOf m) b q)
 
-either : (a b : Bool) → (a || b) ≡ true → (a ≡ true) ⊎ (b ≡ true)
+pub either : (a b : Bool) → (a || b) ≡ true → (a ≡ true) ⊎ (b ≡ true)
 either true b e = inl refl
 either false b e = inr e
 

@@ -1,4 +1,4 @@
--- In a fit state: what is known of the first packet on the line, and of its sender's meter. Assumes nothing.
+-- In a fit state: what is known of the first packet that waits, of the first on the line, and of its sender's meter. Assumes nothing.
 use mathlib.Core.Path.{_≡_, refl, sym, ap, subst, _∙_}
 use mathlib.Core.Bool.{Bool, true, false, not, _&&_}
 use mathlib.Core.List.{_∷_, map}
@@ -18,7 +18,7 @@ use Rattle.components.specs.Ring.{items, popped}
 use Rattle.components.proofs.Items.{Sound, items-pop}
 use Rattle.remy.specs.declared.simulation.Simulation.{Simulation}
 use Rattle.remy.specs.Network.{between, networkStop}
-use Rattle.remy.specs.State.{noTransit, senderAt, meterAt, frontOf, waitingItems, onLinePackets}
+use Rattle.remy.specs.State.{noPacket, noTransit, senderAt, meterAt, firstOf, frontOf, waitingItems, onLinePackets}
 use Rattle.remy.specs.Fit.{every, eachSender, packetFit, packetsFit, clockFit, sinceStart, startedFit, meterStartFit, pastFit, totalsFit, sumsFit, countOf, recordsFit, ackFit, countsFit, meterBitsFit, networkFit}
 use Rattle.remy.proofs.Facts.{both-l, both-r, upTo-at, every-first, FitState}
 use Rattle.remy.proofs.Networks.{FitNetwork, fit-network, few-bits}
@@ -79,6 +79,19 @@ module _ (s : Simulation) (f : FitState s) where
           bounded = clock-bounded e;
         }
 
+  -- a packet that passes the test names a sender
+  names-sender : (p : Packet) → packetFit s p ≡ true → p .sender < s .network .senders
+  names-sender p e =
+      ltb-true (p .sender) (s .network .senders) (both-l (ltb (p .sender) (s .network .senders)) (between 1 (senderAt s (p .sender) .«packets_sent») (p .seq)) e)
+
+  -- ---- the first packet that waits
+  pub first-sender : Sound (s .waiting) (s .line .waiting) → 0 < s .line .waiting .count → firstOf s .sender < s .network .senders
+  unfolding packetsFit
+  first-sender sound some =
+      names-sender (firstOf s)
+      (every-first (packetFit s) (firstOf s) (items noPacket (s .waiting) (popped (s .line .waiting)))
+      (ap (every (packetFit s)) (sym (items-pop sound noPacket some)) ∙ both-l (every (packetFit s) (waitingItems s)) (every (packetFit s) (onLinePackets s)) (f .packets)))
+
   -- ---- the first packet on the line
   module _ (sound : Sound (s .«on_line») (s .line .«on_line»)) (some : 0 < s .line .«on_line» .count) where
     split : onLinePackets s ≡ frontOf s .packet ∷ map (λ x. x .packet) (items noTransit (s .«on_line») (popped (s .line .«on_line»)))
@@ -91,10 +104,7 @@ module _ (s : Simulation) (f : FitState s) where
 
     pub front-sender : frontOf s .packet .sender < s .network .senders
     unfolding packetsFit
-    front-sender =
-        ltb-true (frontOf s .packet .sender) (s .network .senders)
-        (both-l (ltb (frontOf s .packet .sender) (s .network .senders)) (between 1 (senderAt s (frontOf s .packet .sender) .«packets_sent») (frontOf s .packet .seq))
-        (first (packetFit s) (both-r (every (packetFit s) (waitingItems s)) (every (packetFit s) (onLinePackets s)) (f .packets))))
+    front-sender = names-sender (frontOf s .packet) (first (packetFit s) (both-r (every (packetFit s) (waitingItems s)) (every (packetFit s) (onLinePackets s)) (f .packets)))
 
     pub front-past : inRange zeroF (s .head .clock .0 .0) (frontOf s .packet .«sent_time» .0 .0) ≡ true
     unfolding pastFit

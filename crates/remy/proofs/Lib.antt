@@ -16,5 +16,6 @@ pub mod Outcomes
 pub mod Turns
 pub mod Start
 pub mod Account
+pub mod Names
 pub mod Empty
 pub mod Fresh

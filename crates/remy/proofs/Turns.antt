@@ -69,12 +69,12 @@ module _ {adm sts lvs snd : List Entry} {cnt : List PacketId} {s : Simulation} (
       unfolding after-send next
       sent-kept = keep-requeue (count-sent k i (enabledSender (senderAt s i) (senderAt s i .«packets_sent» + 1) e) (s .head .clock) h (few-senders ok) refl plain) (sender i)
 
-      -- admitted, dropped full, or refused
-      arrival-good : OnMoves Good (pickAgain (deliver (recordAt s (sender i) Mark.None (named next) Name.None) after-send (arrives next)))
+      -- admitted, dropped full, or refused; the account does not read the record's part
+      arrival-good : (part : ℕ) → OnMoves Good (pickAgain (deliver (record { time = s .head .clock; part = part; mark = Mark.None; packet = named next; started = Name.None }) after-send (arrives next)))
       unfolding deliver receiveOf after-send next requeue
-      arrival-good =
+      arrival-good part =
           let st = after-send in
-          let r = recordAt s (sender i) Mark.None (named next) Name.None in
+          let r : TickRecord = record { time = s .head .clock; part = part; mark = Mark.None; packet = named next; started = Name.None } in
           let dropped : Arrival = record { number = 0; admitted = false; line = st .line } in
           let taken : Arrival = record { number = 0; admitted = true; line = admitted (st .line) (packetBits (s .network) next) } in
           let full : Arrival = record { number = 12; admitted = false; line = st .line } in
@@ -97,8 +97,7 @@ module _ {adm sts lvs snd : List Entry} {cnt : List PacketId} {s : Simulation} (
         let set = timerSent policy (e .timer) clock in
         cond-elim (λ (a : Acted). OnMoves Good (outcomeWith (sender i) a)) (timerDue e clock) (timerWith s i t) (sendWith s i (tickSend sent policy e clock i))
         (λ due. cond-elim (λ (a : Acted). OnMoves Good (outcomeWith (sender i) a)) (eqb (t .number) 0)
-        (record { number = 0; note = recordAt s (sender i) Mark.Timer Name.None Name.None; simulation = withSender s i (enabledSender (senderAt s i) sent (t .enabled)); messages = [] })
-        (stopped s (t .number))
+        _ (stopped s (t .number))
         (λ z. kept-lists (same adm) (same sts) (same lvs) (same snd) (same cnt)
         (keep-picked (keep-requeue (keep-sender k i (enabledSender (senderAt s i) sent (t .enabled)) refl (timer-plain policy e clock (ok .policy) (k .clock) (eqb-true (t .number) 0 z))) (sender i))))
         (λ z. on-stopped Good (sender i) s (t .number) z))
@@ -112,7 +111,7 @@ module _ {adm sts lvs snd : List Entry} {cnt : List PacketId} {s : Simulation} (
           enabled = record { started = e .started; «greatest_ack» = e .«greatest_ack»; cwnd = windowSent policy (e .cwnd); timer = set .timer };
         })
         (notSent sent e clock i (set .number))
-        (λ z. arrival-good (record { started = e .started; «greatest_ack» = e .«greatest_ack»; cwnd = windowSent policy (e .cwnd); timer = set .timer }) (sent-plain policy (e .timer) clock (ok .policy) (k .clock) plain))
+        (λ z. arrival-good (record { started = e .started; «greatest_ack» = e .«greatest_ack»; cwnd = windowSent policy (e .cwnd); timer = set .timer }) (sent-plain policy (e .timer) clock (ok .policy) (k .clock) plain) _)
         (λ z. rw z (on-stopped Good (sender i) s (set .number) z))))
 
     pub sender-good : OnMoves Good (outcomeOf s (sender i))

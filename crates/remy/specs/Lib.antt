@@ -8,3 +8,4 @@ pub mod Tick
 pub mod Run
 pub mod History
 pub mod Account
+pub mod Names
