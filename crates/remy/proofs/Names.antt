@@ -63,13 +63,13 @@ module _ (n : RemyNetwork) where
   abbrev packet-named : (p : Packet) → p .sender < n .senders → NamesPacket n (named p)
   packet-named p h = record { sender = p .sender; seq = p .seq; same = refl; inside = h }
 
-  -- no start, or the link's
+  -- no start is named, or one in the link's record
   abbrev Begins : ℕ → Name → Type 0
   Begins part started = (started ≡ Name.None) ⊎ (NamesPacket n started × (part ≡ 0))
 
   module _ (r : TickRecord) (starts : Begins (r .part) (r .started)) where
     send-named : isSend (r .mark) ≡ true → isLeave (r .mark) ≡ false → (p : NamesPacket n (r .packet)) × (r .part ≡ senderPart (p .sender)) → WellNamed n r
-    send-named e f p = record { sent = λ (_ : isSend (r .mark) ≡ true). p; left = λ g. absurd (false≢true (sym f ∙ g)); other = λ g h. absurd (false≢true (sym g ∙ e)); starts = starts }
+    send-named e f p = record { sent = λ g. p; left = λ g. absurd (false≢true (sym f ∙ g)); other = λ g h. absurd (false≢true (sym g ∙ e)); starts = starts }
 
     leave-named : isSend (r .mark) ≡ false → isLeave (r .mark) ≡ true → NamesPacket n (r .packet) → r .part ≡ 0 → WellNamed n r
     leave-named e f p q = record { sent = λ g. absurd (false≢true (sym e ∙ g)); left = λ g. (p, q); other = λ g h. absurd (false≢true (sym h ∙ f)); starts = starts }
@@ -168,7 +168,7 @@ module _ (s : Simulation) where
         (λ z. switched-named (t .toggler .enabled))
         (on-stopped Good (toggler i) s (t .number))
 
--- the packet that the link starts after its first part left the line l
+-- what starts, on a line l
 abbrev transmitted : Simulation → Line → Transmitted
 transmitted s l = tryTransmit l (s .head .clock) (firstOf s) (spanOf (s .network .delay)) (rateOf (s .network .rate)) (packetBits (s .network) (firstOf s))
 
@@ -246,6 +246,7 @@ calls-named n (c ∷ cs) h s k =
     let t = called c s in
     call-named n c h (history cs (t .simulation)) s k (calls-named n cs (h ++ noted t []) (t .simulation) (call-keeps n c h s k))
 
+-- Every record with S, F, L, C, O or I names a packet of a sender of the network, and with S or F one of its own part's sender.
 pub marks-name : MarksName
 marks-name n s fresh cs = calls-named n cs [] s (fresh-kept n s fresh)
 
@@ -289,6 +290,7 @@ module _ (n : RemyNetwork) where
       one-own (f (r .mark)) (r .part) (r .time) (r .packet) (entries f h) (recordsWith (ownMark f i) h) i (λ e. all r (List·Memᴰ·head refl) .sent (those (r .mark) e))
       (count-own f those i h (λ x m. all x (List·Memᴰ·tail m)))
 
+-- So counting named packets is counting marks.
 pub names-count-marks : NamesCountMarks
 names-count-marks n s fresh cs =
     let h = history cs s in
