@@ -8,3 +8,4 @@ pub mod Counted
 pub mod Follows
 pub mod Once
 pub mod Refuted
+pub mod Rare

@@ -29,10 +29,11 @@ use Rattle.components.specs.declared.lossy.Enabled.{Enabled}
 use Rattle.components.specs.declared.lossy.SenderState.the-variants as State
 use Rattle.components.specs.declared.lossy.LossySender.{LossySender}
 use Rattle.components.specs.declared.lossy.Heard.the-variants.{Counted}
-use Rattle.components.specs.Link.{admits, isDue, tryDeliver}
+use Rattle.components.specs.Link.{admits, admitted, receiveOf, isDue, tryDeliver}
 use Rattle.components.specs.Sender.{returnedOf}
 use Rattle.components.specs.Queue.{sooner, pickOf}
-use Rattle.points.specs.Points.{Hold, points, outputs, halfway, smallest, one, atOne, first, silent}
+use Rattle.points.specs.Points.{Hold, points, outputs, halfway, smallest, one, atOne, first, silent, dropped}
+use Rattle.points.proofs.Claims.{_and_}
 
 drawn-zero : drawOf smallest halfway .value ≡ zeroF
 unfolding halfway fromWords outputOf sampleOf unitOf uniformOf drawOf div mul add sub neg sum ofInt round units odd size span climb
@@ -56,6 +57,10 @@ never-active = refl
 
 -- ---- the components
 
+sample-0 : unitOf (silent .rng) .value ≡ zeroF
+unfolding unitOf sampleOf outputOf fromWords div ofInt round units odd size span climb
+sample-0 = refl
+
 kept : tryDeliver silent one first zeroF .left ≡ Left.Out (first .packet)
 unfolding tryDeliver isDue unitOf sampleOf outputOf fromWords div ofInt round units odd size span climb lt eq
 kept = refl
@@ -69,17 +74,18 @@ lost : (l : Line) (clock : Time) (front : Transit) → isDue l clock front ≡ t
 unfolding tryDeliver
 lost l clock front due = rw (due, below-one (l .rng))
 
-admitted : admits (Limit.Bits 8) (amountOf 0) (amountOf 8) ≡ true
-unfolding admits
-admitted = refl
+empty-admits : (l : Line) → l .waiting .count ≡ 0 → l .«buffer_contains» ≡ amountOf 0
+    → receiveOf (Limit.Bits 8) l (amountOf 8) ≡ record { number = 0; admitted = true; line = admitted l (amountOf 8) }
+unfolding receiveOf admits
+empty-admits l none bits = rw (none, bits)
 
-full : admits (Limit.Bits 8) (amountOf 8) (amountOf 8) ≡ false
-unfolding admits
-full = refl
+full-drops : (l : Line) → l .«buffer_contains» ≡ amountOf 8 → receiveOf (Limit.Bits 8) l (amountOf 8) ≡ dropped l
+unfolding receiveOf admits
+full-drops l bits = rw bits
 
-none-admitted : (waiting bits : ℕ) → 1 ≤ bits → admits (Limit.Bits 0) (amountOf waiting) (amountOf bits) ≡ false
-unfolding admits
-none-admitted waiting bits h = lt-leb (waiting + bits) 0 (omega arith)
+limit-0-drops : (l : Line) (bits : ℕ) → 1 ≤ bits → receiveOf (Limit.Bits 0) l (amountOf bits) ≡ dropped l
+unfolding receiveOf admits
+limit-0-drops l bits h = rw (lt-leb (l .«buffer_contains» .0 + bits) 0 (omega arith))
 
 lowest : pickOf (atOne ∷ atOne ∷ []) ≡ record { time = Some one; part = 0 }
 unfolding pickOf sooner lt
@@ -95,49 +101,11 @@ counted policy s e p on at = rw (on, at, not-before-itself (e .started .0 .0))
 
 pub points-hold : Hold points
 unfolding outputs halfway fromWords outputOf movedOn sampleOf div ofInt round units odd size span climb
-points-hold = (
-  refl,
-  (
-    refl,
-    (
-      refl,
-      (
-        kept,
-        (
-          lost,
-          (
-            admitted,
-            (
-              full,
-              (
-                none-admitted,
-                (
-                  lowest,
-                  (
-                    counted,
-                    (
-                      switched-on,
-                      (
-                        never-active,
-                        (
-                          refl,
-                          (
-                            drawn-zero,
-                            (
-                              redrawn,
-                              tt,
-                            ),
-                          ),
-                        ),
-                      ),
-                    ),
-                  ),
-                ),
-              ),
-            ),
-          ),
-        ),
-      ),
-    ),
-  ),
-)
+points-hold =
+    refl and refl and refl
+    and sample-0 and kept and lost
+    and empty-admits and full-drops and limit-0-drops
+    and lowest and counted
+    and switched-on and never-active
+    and refl and drawn-zero and redrawn
+    and tt

@@ -1,7 +1,9 @@
--- Points of document 01, each file a list of claims: "Points on the grid" that are marked to be proved, the ends of the ranges, the worked example and its account, unfit states.
+-- Points of document 01, each file a list of claims: "Points on the grid" that are marked to be proved, the ends of the ranges, the worked example and its account, unfit states,
+-- what only states made by hand or rare runs show; and for each clause of the account what it alone refuses.
 pub mod Points
 pub mod Ranges
 pub mod Worked
 pub mod Unfit
 pub mod Counted
 pub mod Refuted
+pub mod Rare

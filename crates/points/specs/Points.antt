@@ -1,4 +1,4 @@
--- Document 01, "Points on the grid": the points marked ●, as one list of claims about the definitions, in the paper's order. The list grows with the definitions.
+-- Document 01, "Points on the grid": the points marked ●, as one list of claims about the definitions, in the paper's order.
 use mathlib.Core.Path.{_≡_}
 use mathlib.Core.Bool.{true, false}
 use mathlib.Core.List.{List, [], _∷_}
@@ -13,12 +13,13 @@ use Rattle.rand.specs.declared.generator.Rng.{Rng}
 use Rattle.rand.specs.declared.distribution.ContinuousDistribution.{ContinuousDistribution}
 use Rattle.rand.specs.declared.distribution.ContinuousDistribution.the-variants.{Uniform}
 use Rattle.rand.specs.Generator.{fromWords, outputOf, movedOn}
-use Rattle.rand.specs.Draws.{sampleOf, drawOf, redraw}
+use Rattle.rand.specs.Draws.{sampleOf, unitOf, drawOf, redraw}
 use Rattle.meters.specs.Meter.{newMeter, switchedOf, readOf}
 use Rattle.components.specs.declared.packet.Packet.{Packet}
 use Rattle.components.specs.declared.packet.Transit.{Transit}
 use Rattle.components.specs.declared.link.Limit.the-variants as Limit
 use Rattle.components.specs.declared.link.Line.{Line}
+use Rattle.components.specs.declared.link.Arrival.{Arrival}
 use Rattle.components.specs.declared.link.Left.the-variants as Left
 use Rattle.components.specs.declared.lossy.Policy.{Policy}
 use Rattle.components.specs.declared.lossy.Enabled.{Enabled}
@@ -26,7 +27,7 @@ use Rattle.components.specs.declared.lossy.SenderState.the-variants as State
 use Rattle.components.specs.declared.lossy.LossySender.{LossySender}
 use Rattle.components.specs.declared.lossy.Heard.the-variants.{Counted}
 use Rattle.components.specs.declared.tick_queue.Queued.{Queued}
-use Rattle.components.specs.Link.{admits, isDue, tryDeliver}
+use Rattle.components.specs.Link.{admitted, receiveOf, isDue, tryDeliver}
 use Rattle.components.specs.Sender.{returnedOf}
 use Rattle.components.specs.Queue.{pickOf}
 
@@ -56,7 +57,7 @@ one = timeOf (power 0)
 abbrev pub atOne : Queued
 atOne = record { time = Some one }
 
--- a packet on the line that is due at 1, and a line that holds it alone, whose next sample is 0
+-- a packet on the line that is due at 1, and a line that holds it alone, whose next output is 0
 abbrev pub first : Transit
 first = record { packet = record { sender = 0; seq = 1; «sent_time» = timeOf zeroF }; due = one }
 
@@ -67,8 +68,12 @@ silent =
       «buffer_contains» = amountOf 0;
       waiting = record { start = 0; count = 0 };
       «on_line» = record { start = 0; count = 1 };
-      rng = fromWords 0 0 0 0;
+      rng = fromWords 0 1 0 0;
     }
+
+-- a packet that was dropped: the line is as it was
+abbrev pub dropped : Line → Arrival
+dropped l = record { number = 0; admitted = false; line = l }
 
 abbrev pub points : List (Type 0)
 points =
@@ -79,15 +84,17 @@ points =
     -- 41943041 samples 10240/2^52, which is 5 * 2^-41.
     ∷ (sampleOf 41943041 ≡ fin false 5 (negsuc 40))
     -- Loss 0, sample 0: kept.
+    ∷ (unitOf (silent .rng) .value ≡ zeroF)
     ∷ (tryDeliver silent one first zeroF .left ≡ Left.Out (first .packet))
     -- Loss 1: always lost, whatever the generator gives.
     ∷ ((l : Line) (clock : Time) (front : Transit) → isDue l clock front ≡ true → tryDeliver l clock front (power 0) .left ≡ Left.Lost (front .packet))
     -- Limit 8: empty admits 8 bits,
-    ∷ (admits (Limit.Bits 8) (amountOf 0) (amountOf 8) ≡ true)
+    ∷ ((l : Line) → l .waiting .count ≡ 0 → l .«buffer_contains» ≡ amountOf 0
+    → receiveOf (Limit.Bits 8) l (amountOf 8) ≡ record { number = 0; admitted = true; line = admitted l (amountOf 8) })
     -- 8 waiting drops.
-    ∷ (admits (Limit.Bits 8) (amountOf 8) (amountOf 8) ≡ false)
+    ∷ ((l : Line) → l .«buffer_contains» ≡ amountOf 8 → receiveOf (Limit.Bits 8) l (amountOf 8) ≡ dropped l)
     -- Limit 0 drops all: every packet has a bit.
-    ∷ ((waiting bits : ℕ) → 1 ≤ bits → admits (Limit.Bits 0) (amountOf waiting) (amountOf bits) ≡ false)
+    ∷ ((l : Line) (bits : ℕ) → 1 ≤ bits → receiveOf (Limit.Bits 0) l (amountOf bits) ≡ dropped l)
     -- Parts 0 and 1 both at 1: part 0.
     ∷ (pickOf (atOne ∷ atOne ∷ []) ≡ record { time = Some one; part = 0 })
     -- Sent exactly at started: counted.
