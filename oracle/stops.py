@@ -303,7 +303,8 @@ def unfit():
     for k in (1, 3, 32):
         yield not_fit(f"part {k} queued with no time of its own", queued(k, 3.0))
     yield not_fit("another part not queued, with a time of its own", queued(2, None))
-    yield fit("the next part's own place in the queue", queued(0, NAN))
+    for x, good in [(3.0, True), (2.0**41, True), (2.0, False), (after(2.0**41), False), (NAN, False)]:
+        yield (fit if good else not_fit)(f"{x} in the next part's own place in the queue", queued(0, x))
     pair = [with_network(senders=2), toggler(on=False, i=1), queued(4, TOGGLE)]
     yield fit("a second sender", *pair)
     yield not_fit("the second sender's meter", *pair, meter(total=-1.0, start=None, bits=0, records=0, rtt=0.0, i=1))
