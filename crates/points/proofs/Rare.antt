@@ -14,7 +14,7 @@ rare-holds =
     refl and refl and refl
     and refl
     and refl
-    and refl
+    and refl and refl
     and refl
     and refl and refl and refl and refl and refl and refl and refl and refl and refl
     and empty-built and refl

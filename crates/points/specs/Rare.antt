@@ -20,13 +20,11 @@ use Rattle.components.specs.declared.lossy.Returned.{Returned}
 use Rattle.components.specs.declared.lossy.Heard.the-variants.{Counted}
 use Rattle.components.specs.Sender.{tickTimer, tickSend, returnedOf}
 use Rattle.remy.specs.Build.{emptyNetwork, emptySimulation, buildOf}
+use Rattle.points.specs.Points.{one}
 use Rattle.points.specs.Ranges.{double}
 use Rattle.points.specs.Worked.{at}
 
 -- ---- a sender that is on since 1 and has sent 9
-
-abbrev pub one : Time
-one = at 0x3ff0000000000000
 
 abbrev pub two : Time
 two = at 0x4000000000000000
@@ -41,9 +39,13 @@ onWith ack window timer = record { started = one; «greatest_ack» = ack; cwnd =
 abbrev pub senderWith : ℕ → ℕ → LossySender
 senderWith ack window = record { «packets_sent» = 9; state = State.Enabled (onWith ack window None); rng = fromWords 1 2 3 4 }
 
--- a timer at 2 of timed 8 with a gap of 1, at this window; and the answer with that one
+-- timed with a gap of 1
+abbrev pub timed : ℕ → Policy
+timed most = Timed most (double 0x3ff0000000000000)
+
+-- a timer at 2 of timed 8, at this window; and the answer with that one
 abbrev pub fired : ℕ → TimerTicked
-fired window = tickTimer (Timed 8 (double 0x3ff0000000000000)) (onWith 7 window (Some two)) two
+fired window = tickTimer (timed 8) (onWith 7 window (Some two)) two
 
 abbrev pub halved : ℕ → TimerTicked
 halved window = record { number = 0; enabled = onWith 7 window (Some three) }
@@ -66,8 +68,9 @@ rare =
     ≡ record { number = 0; packet = record { sender = 0; seq = 10; «sent_time» = two }; «packets_sent» = 10; enabled = onWith 7 3 None })
     -- and count.
     ∷ (comesBack (Held 3) 8 ≡ counts 8 3)
-    -- Grown 1..2: a count gives min(window + 1, 2).
+    -- Grown 1..2: a count gives min(window + 1, 2); timed grows likewise.
     ∷ (comesBack (Grown 1 2) 8 ≡ counts 8 2)
+    ∷ (comesBack (timed 2) 8 ≡ counts 8 2)
     -- Greatest ack = max: a sequence below it leaves it.
     ∷ (comesBack (Grown 1 64) 6 ≡ counts 7 6)
     -- The empty simulation: delay 0, rate 1, loss 0, no limit, 1 bit, no senders, on and off always 1, held 1,
