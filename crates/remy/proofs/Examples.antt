@@ -6,7 +6,8 @@ use mathlib.Core.List.{List, [], _∷_}
 use Prim.Native.Nat.{ℕ, zero, suc}
 use lib.IntN.{pos}
 use lib.ListN.{replicate}
-use lib.Ieee.{Float, fin}
+use lib.Ieee.{Float, nan, fin}
+use Rattle.quantities.specs.declared.time.OptionTime.the-variants.{Some}
 use Rattle.quantities.specs.Doubles.{zeroF, power}
 use Rattle.quantities.specs.Units.{timeOf, amountOf}
 use Rattle.rand.specs.declared.distribution.ContinuousDistribution.the-variants.{Always}
@@ -21,7 +22,7 @@ use Rattle.remy.specs.declared.simulation.Mark.the-variants as Mark
 use Rattle.remy.specs.declared.simulation.Name.{Name}
 use Rattle.remy.specs.declared.simulation.Name.the-variants as Name
 use Rattle.remy.specs.declared.simulation.TickRecord.{TickRecord}
-use Rattle.remy.specs.State.{withLine}
+use Rattle.remy.specs.State.{withLine, withQueued}
 use Rattle.remy.specs.Build.{buildOf}
 use Rattle.remy.specs.Tick.{tickOf}
 use Rattle.remy.specs.History.{Call, tick, after, history}
@@ -112,3 +113,9 @@ nearby-history : history (ticks 4) (built zeroF Limit.None 1)
     ∷ []
 unfolding ticking
 nearby-history = refl
+
+-- ---- a NaN queued at the next part's own place, here the toggler's, is refused with 9
+
+unfit-next-place : tickOf (withQueued worked 2 (Some (timeOf nan))) .number ≡ 9
+unfolding ticking
+unfit-next-place = refl
