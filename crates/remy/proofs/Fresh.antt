@@ -46,6 +46,7 @@ use Rattle.remy.specs.Build.{newLine, newSender, Parts, noParts, populat
 use Rattle.remy.specs.Fit.{upTo, eachSender, held, heldIfAny, isIdle, heldSender, heldQueued, isNext, startedFit, meterStartFit, sameTime, nextFit, networkFit, ringsFit, packetsFit, bitsFit, clockFit, heldTimesFit, pastFit, totalsFit, sumsFit, recordsFit, dueFit, countsFit, windowsFit, timersFit, togglersAgree, metersAgree, meterBitsFit, queueFit, fit}
 use Rattle.remy.proofs.Facts.{both-l, both-r, holds}
 use Rattle.remy.proofs.Networks.{fit-network, few-senders}
+use Rattle.remy.proofs.Kept.{at-set}
 use Rattle.remy.proofs.Steps.{cond-elim}
 use Rattle.remy.proofs.Roles.{Real, role-at}
 use Rattle.remy.proofs.Empty.{empty-fit}
@@ -366,15 +367,6 @@ same-self (Some t) w = is-true (eq (t .0 .0) (t .0 .0)) (eq-refl (t .0 .0) (le-k
 
 -- ---- the first pick
 
--- a place after a removal holds nothing or what it held
-pub after-removal : (F : OptionTime → Type 0) (queue : List Queued) (j k : ℕ) → F None → F (getD queue k noQueued .time)
-    → F (getD (set queue j noQueued) k noQueued .time)
-after-removal F [] j k none there = there
-after-removal F (q ∷ qs) zero zero none there = none
-after-removal F (q ∷ qs) zero (suc k) none there = there
-after-removal F (q ∷ qs) (suc j) zero none there = there
-after-removal F (q ∷ qs) (suc j) (suc k) none there = after-removal F qs j k none there
-
 -- the queue before the pick, and what the pick gives
 abbrev allQueued : Simulation → List Queued
 allQueued s = ownTimes s queuePlaces 0
@@ -437,8 +429,8 @@ module _ (s : Simulation) (b : Blank s) where
           next = ap (sameTime (Some t)) (own-same s b _ _ _ ∙ there) ∙ same-self (Some t) first-soon;
           own = λ k h z. place-same (Some t) (queuedAt (after s (Some t)) k) k h (kept k z);
           later = λ k h.
-              after-removal (λ (x : OptionTime). heldQueued (after s (Some t)) x ≡ true) (allQueued s) (first s .part) k refl
-              (not-before k (getD (allQueued s) k noQueued .time) refl (rw (queued-own k h) (soon s b k)));
+              at-set (λ (x : Queued). heldQueued (after s (Some t)) (x .time) ≡ true) noQueued (allQueued s) (first s .part) noQueued k
+              (not-before k (getD (allQueued s) k noQueued .time) refl (rw (queued-own k h) (soon s b k))) refl;
         }
 
   ready : (time : OptionTime) → first s .time ≡ time → Ready (after s time)

@@ -30,15 +30,18 @@ use Rattle.remy.proofs.Lists.{map-append, total-append}
 use Rattle.remy.proofs.Lines.{LineKept}
 use Rattle.remy.proofs.Plain.{Plain, PlainIfAny, PlainOrLeast}
 
--- ---- elements after a store, at every index
+-- ---- elements after a store: at one index, and at every index
 
 module _ {A : Type 0} (P : A → Type 0) (d : A) where
+  pub at-set : (l : List A) (j : ℕ) (x : A) (i : ℕ) → P (getD l i d) → P x → P (getD (set l j x) i d)
+  at-set [] j x i there p = there
+  at-set (y ∷ l) zero x zero there p = p
+  at-set (y ∷ l) zero x (suc i) there p = there
+  at-set (y ∷ l) (suc j) x zero there p = there
+  at-set (y ∷ l) (suc j) x (suc i) there p = at-set l j x i there p
+
   pub all-set : (l : List A) (j : ℕ) (x : A) → ((i : ℕ) → P (getD l i d)) → P x → (i : ℕ) → P (getD (set l j x) i d)
-  all-set [] j x all p i = all i
-  all-set (y ∷ l) zero x all p zero = p
-  all-set (y ∷ l) zero x all p (suc i) = all (suc i)
-  all-set (y ∷ l) (suc j) x all p zero = all zero
-  all-set (y ∷ l) (suc j) x all p (suc i) = all-set l j x (λ i. all (suc i)) p i
+  all-set l j x all p i = at-set l j x i (all i) p
 
 -- a store that leaves a reading of the element alone leaves it alone at every index
 pub same-set : {A B : Type 0} (f : A → B) (d : A) (l : List A) (j : ℕ) (x : A) → f x ≡ f (getD l j d) → (i : ℕ) → f (getD (set l j x) i d) ≡ f (getD l i d)

@@ -40,8 +40,9 @@ use Rattle.remy.specs.Queue.{ownTime, nextTimeOf, partOf, headOf, removed, pick
 use Rattle.remy.specs.Fit.{heldQueued, sameTime, rising}
 use Rattle.remy.proofs.Facts.{both-l, both-r, holds}
 use Rattle.remy.proofs.Networks.{fit-network, few-senders, delay-from-zero}
+use Rattle.remy.proofs.Kept.{at-set}
 use Rattle.remy.proofs.Roles.{Real, role-at, role-of, part-inside}
-use Rattle.remy.proofs.Fresh.{All, after-removal}
+use Rattle.remy.proofs.Fresh.{All}
 use Rattle.steady.proofs.Facts.{NotAfter, Held, Past, PastIfAny, PacketOk, TransitOk, TimerIfAny, StateOk, MeterOk, Body, sentOf, QueueOk, Between}
 use Rattle.steady.proofs.Lists.{all-map}
 use Rattle.steady.proofs.Full.{full-queue}
@@ -274,8 +275,8 @@ module _ (s : Simulation) (b : Body s) (q : QueueOk s) where
     left-ahead : (k : ℕ) → k < queuePlaces → heldQueued (moved s (next s) t) (queuedAt (moved s (next s) t) k) ≡ true
     left-ahead k h =
         let s' = moved s (next s) t in
-        after-removal (λ (x : OptionTime). heldQueued s' x ≡ true) (s .queue) (next s) k refl
-        (ahead-queued s' (queuedAt s k) (record { held = queued k h .held; from = queued-from k h }))
+        at-set (λ (x : Queued). heldQueued s' (x .time) ≡ true) noQueued (s .queue) (next s) noQueued k
+        (ahead-queued s' (queuedAt s k) (record { held = queued k h .held; from = queued-from k h })) refl
 
     moved-between : Between (next s) (moved s (next s) t)
     moved-between =
