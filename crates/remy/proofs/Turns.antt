@@ -6,7 +6,7 @@ use Prim.Native.Nat.{ℕ, _+_, _-_, _/_, _%_, _<_}
 use borrow.Author.Tests.{eqb-true, ltb-true}
 use lib.Dec.{leb, ltb, eqb}
 use lib.ListN.{set}
-use lib.Ieee.{lt, le}
+use lib.Ieee.{lt}
 use Rattle.quantities.specs.Doubles.{zeroF, power}
 use Rattle.quantities.specs.Units.{spanOf}
 use Rattle.quantities.proofs.Order.{lt→le}
