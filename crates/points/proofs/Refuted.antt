@@ -1,25 +1,28 @@
 -- Each clause of the account has a history and a last state that it alone refuses: the refutation cites that clause and no other. Assumes nothing.
 use mathlib.Core.Path.{_≡_, refl, ap, subst}
-use mathlib.Core.Bool.{true, true≢false, false≢true}
+use mathlib.Core.Bool.{true, false, _&&_, cond, true≢false, false≢true}
 use mathlib.Core.List.{List, [], _∷_}
 use Prim.Native.Nat.{ℕ, zero, suc, _≤_, _<_}
 use native.Mathlib.Omega.{arith}
+use borrow.Author.Tests.{eqb-false}
+use lib.Dec.{ltb, eqb}
 use lib.ListN.{getD}
 use lib.Ieee.{eq}
 use Rattle.quantities.specs.Doubles.{zeroF}
 use Rattle.remy.specs.declared.network.RemyNetwork.{RemyNetwork}
 use Rattle.remy.specs.declared.simulation.Simulation.{Simulation}
 use Rattle.remy.specs.declared.simulation.Mark.the-variants as Mark
+use Rattle.remy.specs.Network.{between}
 use Rattle.remy.specs.State.{noTime, senderAt}
 use Rattle.remy.specs.Build.{buildOf}
 use Rattle.remy.specs.History.{after, history, Fresh, PacketId}
-use Rattle.remy.specs.Account.{everywhere, Account}
+use Rattle.remy.specs.Account.{total, isPacket, everywhere, Account}
 use Rattle.remy.proofs.Account.{demand3}
 use Rattle.remy.proofs.Opened.{doubles, ticking}
 use Rattle.points.specs.Points.{Hold}
 use Rattle.points.specs.Counted.{calls}
 use Rattle.points.specs.Unfit.{three}
-use Rattle.points.specs.Refuted.{Case, network, sent, books, once, meter, starts, leaves, arrival, spacing, bits, limit, Says, Others, Accounted, Refuted, plan, ten, tenth, anotherNetwork, unrecorded, mislaid, recordedTwice, passedOver, overtaken, late, tooClose, talliedTwice, overfull, numbered, neverSent, refutations}
+use Rattle.points.specs.Refuted.{Case, network, sent, books, once, meter, starts, leaves, arrival, spacing, bits, limit, Says, Others, Accounted, Refuted, plan, ten, tenth, anotherNetwork, unrecorded, mislaid, recordedTwice, passedOver, overtaken, late, tooClose, talliedTwice, overfull, fullAndWaiting, waitingAndOnLine, onLineAndFull, leftAndOnLine, numbered, nowhere, neverSent, refutations}
 use Rattle.points.proofs.Claims.{_and_}
 use Rattle.points.proofs.Once.{eachOnce, once-by}
 use Rattle.points.proofs.Follows.{books-follows, sent-follows}
@@ -167,7 +170,12 @@ sent-refutes =
     and refl and only _ refl and once-in unrecorded refl and only _ refl
     and refl and refl and (tt, (tt, tt)) and refl and omega arith and tt
 
--- ---- `once`: the packet that it is asked of
+-- ---- `once`: a packet is not found as often as it should be
+
+not-once : (k : Case) (i m : ℕ)
+    → eqb (total (isPacket i m) (everywhere (k .past) (k .last))) (cond (ltb i (k .network .senders) && between 1 (senderAt (k .last) i .«packets_sent») m) 1 0) ≡ false
+    → Accounted k → ⊥
+not-once k i m e a = eqb-false (total (isPacket i m) (everywhere (k .past) (k .last))) (cond (ltb i (k .network .senders) && between 1 (senderAt (k .last) i .«packets_sent») m) 1 0) e (a .once i m)
 
 -- whatever the packets' numbers are, the other clauses hold
 module _ (a b c d e f : ℕ) where
@@ -203,15 +211,15 @@ refutations-hold =
     says-all and all-said
     and plan-fresh and ten-noted and ten-done and ten-account
     and network-refutes and meter-refutes and starts-refutes and leaves-refutes and arrival-refutes and spacing-refutes and bits-refutes and limit-refutes
-    and ((λ k. let twice : 2 ≡ 1 = k .once 0 5 in omega (arith, twice)), counted-others 1 2 3 4 5 5)
-    and ((λ k. let twice : 2 ≡ 1 = k .once 0 3 in omega (arith, twice)), counted-others 1 2 3 3 5 6)
-    and ((λ k. let twice : 2 ≡ 1 = k .once 0 3 in omega (arith, twice)), counted-others 1 2 3 4 5 3)
-    and ((λ k. let twice : 2 ≡ 1 = k .once 0 2 in omega (arith, twice)), lost-others 2 2 3 4 5 6)
-    and ((λ k. let twice : 2 ≡ 1 = k .once 0 2 in omega (arith, twice)), counted-others 2 2 3 4 5 6)
-    and ((λ k. let twice : 2 ≡ 1 = k .once 0 2 in omega (arith, twice)), old-others 2 2 3 4 5 6)
-    and ((λ k. let twice : 2 ≡ 1 = k .once 0 2 in omega (arith, twice)), ignored-others 2 2 3 4 5 6)
-    and ((λ k. let absent : 0 ≡ 1 = k .once 0 6 in omega (arith, absent)), counted-others 1 2 3 4 5 7)
-    and ((λ k. let there : 1 ≡ 0 = k .once 1 1 in omega (arith, there)), never-sent-others)
+    and (not-once fullAndWaiting 0 5 refl, counted-others 1 2 3 4 5 5)
+    and (not-once waitingAndOnLine 0 3 refl, counted-others 1 2 3 3 5 6)
+    and (not-once onLineAndFull 0 3 refl, counted-others 1 2 3 4 5 3)
+    and (not-once (leftAndOnLine Mark.Lost 0) 0 2 refl, lost-others 2 2 3 4 5 6)
+    and (not-once (leftAndOnLine Mark.Counted 1) 0 2 refl, counted-others 2 2 3 4 5 6)
+    and (not-once (leftAndOnLine Mark.Old 0) 0 2 refl, old-others 2 2 3 4 5 6)
+    and (not-once (leftAndOnLine Mark.Ignored 0) 0 2 refl, ignored-others 2 2 3 4 5 6)
+    and (not-once nowhere 0 6 refl, counted-others 1 2 3 4 5 7)
+    and (not-once neverSent 1 1 refl, never-sent-others)
     and books-follows and sent-follows and books-refutes and sent-refutes
     and every-build
     and (λ s. refl) and (λ s cs moved. rw moved) and (λ s cs stayed. rw stayed)
