@@ -14,7 +14,7 @@ use Rattle.quantities.specs.Units.{spanOf, rateOf, rateOver}
 use Rattle.meters.specs.declared.flow.Rtt.{Rtt}
 use Rattle.meters.specs.declared.flow.Rtt.the-variants.{NoPacketsAcked, Known}
 use Rattle.meters.specs.declared.flow.FlowProperties.{FlowProperties}
-use Rattle.meters.specs.declared.average.FlowSum.{FlowSum}
+use Rattle.meters.specs.declared.sums.FlowSum.{FlowSum}
 use Rattle.meters.specs.Sums.{summedOf, averageRtt, refusal}
 use Rattle.meters.specs.Average.{memberFit, membersFit, rates, withRtt, rtts, sumFrom, sumOf, averageOf, startOf, refusedSum, rttCount, rttSum, addedOf, meanOf}
 

@@ -1,6 +1,6 @@
--- Laws that the functions' proofs and the crates above cite.
-pub mod Fit
-pub mod Fold
+-- Laws that the functions' proofs cite. `Plain` is for the crates above too.
+mod Fit
+mod Fold
 pub mod Plain
-pub mod Thin
-pub mod Lending
+mod Thin
+mod Lending

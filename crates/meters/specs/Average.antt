@@ -11,9 +11,9 @@ use Rattle.quantities.specs.Units.{spanOf, rateOf, rateOver}
 use Rattle.meters.specs.declared.flow.Rtt.{Rtt}
 use Rattle.meters.specs.declared.flow.Rtt.the-variants.{NoPacketsAcked, Known}
 use Rattle.meters.specs.declared.flow.FlowProperties.{FlowProperties}
-use Rattle.meters.specs.declared.average.FlowSum.{FlowSum}
-use Rattle.meters.specs.declared.average.Mean.{Mean}
-use Rattle.meters.specs.declared.average.Mean.the-variants.{Average, Refused}
+use Rattle.meters.specs.declared.sums.FlowSum.{FlowSum}
+use Rattle.meters.specs.declared.sums.Mean.{Mean}
+use Rattle.meters.specs.declared.sums.Mean.the-variants.{Average, Refused}
 use Rattle.meters.specs.Sums.{summedOf, averageRtt, FlowAnswer, refusal}
 
 -- ---- the mean of a list

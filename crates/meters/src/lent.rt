@@ -1,13 +1,8 @@
-ghost use mathlib.Core.Bool.{cond};
 ghost use mathlib.Core.Path.{_≡_};
-ghost use Prim.Native.Nat.{_≤_};
-ghost use lib.Dec.{leb};
-ghost use lib.ListN.{take};
 ghost use Rattle.meters.specs.Average.{averageOf, toldMean};
-ghost use Rattle.meters.specs.Sums.{refusal};
 ghost use Rattle.meters.specs.Meter.{switchedOf, receivedOf};
-use crate::average::FlowSum;
-use crate::average::Mean;
+use crate::sums::FlowSum;
+use crate::sums::Mean;
 use crate::flow::FlowProperties;
 use crate::meter::AverageFlowMeter;
 use crate::meter::Metered;
@@ -72,22 +67,4 @@ pub fn average(list: &[FlowProperties]) -> Mean
         i += 1;
     }
     sum.mean()
-}
-
-// The mean of the first so many of 64 flow records by value; refused where there are not so many.
-pub fn average_of(list: [FlowProperties; 64], count: usize) -> Mean
-    ensures { λ r. ⌜ toldMean r ≡ cond (leb count 64) (averageOf (take count list)) (refusal 17) ⌝ }
-{
-    if count > 64 {
-        return Mean::Refused;
-    }
-    average_first(list, count)
-}
-
-// The same where there are so many: these are lent.
-fn average_first(list: [FlowProperties; 64], count: usize) -> Mean
-    requires { ⌜ count ≤ 64 ⌝ }
-    ensures { λ r. ⌜ toldMean r ≡ averageOf (take count list) ⌝ }
-{
-    average(&list[..count])
 }

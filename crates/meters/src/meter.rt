@@ -1,7 +1,7 @@
 ghost use mathlib.Core.Path.{_≡_};
 ghost use Rattle.meters.specs.Meter.{newMeter, startFit, meterFit, ready, enabledTime, switchedOf, recordedOf, receivedOf, readOf, toldRead};
-use crate::average::average_rtt;
-use crate::average::summed;
+use crate::sums::average_rtt;
+use crate::sums::summed;
 use crate::flow::FlowProperties;
 use quantities::Information;
 use quantities::OptionTime;

@@ -51,25 +51,25 @@ use Rattle.quantities.specs.Doubles.{zeroF}
 use Rattle.quantities.specs.Units.{rateOf}
 use Rattle.meters.specs.declared.flow.FlowProperties.{FlowProperties}
 use Rattle.meters.specs.declared.flow.Rtt.the-variants.{NoPacketsAcked}
-use Rattle.meters.specs.declared.average.FlowSum.{FlowSum}
-use Rattle.meters.specs.declared.average.Mean.{Mean}
+use Rattle.meters.specs.declared.sums.FlowSum.{FlowSum}
+use Rattle.meters.specs.declared.sums.Mean.{Mean}
 use Rattle.meters.specs.Average.{averageOf, startOf, addedOf, meanOf, toldMean}
 use Rattle.meters.proofs.Fold.{folded, fold-mean}
 use Rattle.meters.proofs.flow.FlowProperties as F
 use Rattle.meters.proofs.flow.FlowProperties.Laws as F′
-use Rattle.meters.proofs.average.FlowSum as S
-use Rattle.meters.proofs.average.FlowSum.Laws as S′
-use Rattle.meters.proofs.average.Mean as R
-use Rattle.meters.proofs.average.Mean.Laws as R′
-use Rattle.meters.proofs.average.FlowSum.start as start
-use Rattle.meters.proofs.average.FlowSum.start.Symbol as start-def
-use Rattle.meters.proofs.average.FlowSum.start.Met as start-thm
-use Rattle.meters.proofs.average.FlowSum.added as added
-use Rattle.meters.proofs.average.FlowSum.added.Symbol as added-def
-use Rattle.meters.proofs.average.FlowSum.added.Met as added-thm
-use Rattle.meters.proofs.average.FlowSum.mean as mean
-use Rattle.meters.proofs.average.FlowSum.mean.Symbol as mean-def
-use Rattle.meters.proofs.average.FlowSum.mean.Met as mean-thm
+use Rattle.meters.proofs.sums.FlowSum as S
+use Rattle.meters.proofs.sums.FlowSum.Laws as S′
+use Rattle.meters.proofs.sums.Mean as R
+use Rattle.meters.proofs.sums.Mean.Laws as R′
+use Rattle.meters.proofs.sums.FlowSum.start as start
+use Rattle.meters.proofs.sums.FlowSum.start.Symbol as start-def
+use Rattle.meters.proofs.sums.FlowSum.start.Met as start-thm
+use Rattle.meters.proofs.sums.FlowSum.added as added
+use Rattle.meters.proofs.sums.FlowSum.added.Symbol as added-def
+use Rattle.meters.proofs.sums.FlowSum.added.Met as added-thm
+use Rattle.meters.proofs.sums.FlowSum.mean as mean
+use Rattle.meters.proofs.sums.FlowSum.mean.Symbol as mean-def
+use Rattle.meters.proofs.sums.FlowSum.mean.Met as mean-thm
 use Rattle.meters.proofs.lent.average.Key as key
 use Rattle.meters.proofs.lent.average as f
 use Rattle.meters.proofs.lent.average.Statement.{statement}
@@ -300,6 +300,6 @@ average-spec 𝓤 H 𝓜 𝓖 𝓡 =
     entered 𝓤 H (tripleOf 𝓤 H (𝓖 .A) f.signature (f.spec 𝓤 H (𝓖 .A) (𝓜 .mem) (𝓡 .run)))
     (tables 𝓤 H 𝓜 𝓡 code.env .C) (tables 𝓤 H 𝓜 𝓡 code.env .Λ) key.name code.function (code.unfolded 𝓤 H 𝓜 𝓡)
     (meets 𝓤 H (𝓖 .A) (givenOf 𝓤 H 𝓜 𝓖) (𝓜 .mem) (𝓡 .run) (tablesOf 𝓤 H 𝓜 (tables 𝓤 H 𝓜 𝓡 code.env))
-    (cited 𝓤 H (Start 𝓤 H (𝓖 .A) (𝓜 .mem) (𝓡 .run)) 𝓜 𝓡 code.env start-def.name start-def.routine code.calls-meters·average·FlowSum·start (start-thm.met 𝓤 H 𝓜 𝓖 𝓡))
-    (cited 𝓤 H (Added 𝓤 H (𝓖 .A) (𝓜 .mem) (𝓡 .run)) 𝓜 𝓡 code.env added-def.name added-def.routine code.calls-meters·average·FlowSum·added (added-thm.met 𝓤 H 𝓜 𝓖 𝓡))
-    (cited 𝓤 H (Told 𝓤 H (𝓖 .A) (𝓜 .mem) (𝓡 .run)) 𝓜 𝓡 code.env mean-def.name mean-def.routine code.calls-meters·average·FlowSum·mean (mean-thm.met 𝓤 H 𝓜 𝓖 𝓡)))
+    (cited 𝓤 H (Start 𝓤 H (𝓖 .A) (𝓜 .mem) (𝓡 .run)) 𝓜 𝓡 code.env start-def.name start-def.routine code.calls-meters·sums·FlowSum·start (start-thm.met 𝓤 H 𝓜 𝓖 𝓡))
+    (cited 𝓤 H (Added 𝓤 H (𝓖 .A) (𝓜 .mem) (𝓡 .run)) 𝓜 𝓡 code.env added-def.name added-def.routine code.calls-meters·sums·FlowSum·added (added-thm.met 𝓤 H 𝓜 𝓖 𝓡))
+    (cited 𝓤 H (Told 𝓤 H (𝓖 .A) (𝓜 .mem) (𝓡 .run)) 𝓜 𝓡 code.env mean-def.name mean-def.routine code.calls-meters·sums·FlowSum·mean (mean-thm.met 𝓤 H 𝓜 𝓖 𝓡)))

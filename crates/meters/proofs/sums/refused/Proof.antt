@@ -1,8 +1,8 @@
 -- The record of the refusal, its literals opened. Assumes nothing.
 use mathlib.Core.Path.{refl}
 use lib.Ieee.{ofBits}
-use Rattle.meters.proofs.average.refused.Statement.{statement}
-use Rattle.meters.proofs.average.refused.Tie as tie
+use Rattle.meters.proofs.sums.refused.Statement.{statement}
+use Rattle.meters.proofs.sums.refused.Tie as tie
 
 returns : tie.Need-returns
 unfolding ofBits

@@ -3,8 +3,8 @@ use Rattle.quantities.proofs.Tested.{passed, failed}
 use Rattle.meters.specs.Average.{memberFit}
 use lib.Ieee.{ofBits}
 use borrow.Author.Needs.{needs}
-use Rattle.meters.proofs.average.member_fit.Statement.{statement}
-use Rattle.meters.proofs.average.member_fit.Tie as tie
+use Rattle.meters.proofs.sums.member_fit.Statement.{statement}
+use Rattle.meters.proofs.sums.member_fit.Tie as tie
 
 in-range-requires : tie.Need-in-range-requires
 in-range-requires c κs = search needs

@@ -1,8 +1,8 @@
 -- The record of the start, its literals opened. Assumes nothing.
 use mathlib.Core.Path.{refl}
 use lib.Ieee.{ofBits}
-use Rattle.meters.proofs.average.FlowSum.start.Statement.{statement}
-use Rattle.meters.proofs.average.FlowSum.start.Tie as tie
+use Rattle.meters.proofs.sums.FlowSum.start.Statement.{statement}
+use Rattle.meters.proofs.sums.FlowSum.start.Tie as tie
 
 returns : tie.Need-returns
 unfolding ofBits

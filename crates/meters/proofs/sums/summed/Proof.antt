@@ -1,8 +1,8 @@
 -- Each arm rewrites by its test. Assumes nothing.
 use borrow.Author.Tests.{eq-eqb, ne-eqb}
 use Rattle.meters.specs.Sums.{summedOf}
-use Rattle.meters.proofs.average.summed.Statement.{statement}
-use Rattle.meters.proofs.average.summed.Tie as tie
+use Rattle.meters.proofs.sums.summed.Statement.{statement}
+use Rattle.meters.proofs.sums.summed.Tie as tie
 
 returns : tie.Need-returns
 unfolding summedOf

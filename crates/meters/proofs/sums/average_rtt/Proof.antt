@@ -2,8 +2,8 @@
 use borrow.Author.Tests.{eq-eqb, ne-eqb}
 use Rattle.meters.specs.Sums.{averageRtt}
 use borrow.Author.Needs.{needs}
-use Rattle.meters.proofs.average.average_rtt.Statement.{statement}
-use Rattle.meters.proofs.average.average_rtt.Tie as tie
+use Rattle.meters.proofs.sums.average_rtt.Statement.{statement}
+use Rattle.meters.proofs.sums.average_rtt.Tie as tie
 
 div-requires : tie.Need-div-requires
 div-requires c κs = search needs

@@ -2,8 +2,8 @@
 use borrow.Author.Tests.{eq-eqb, le-leb, lt-leb, ne-eqb}
 use Rattle.meters.specs.Average.{meanOf}
 use borrow.Author.Needs.{needs}
-use Rattle.meters.proofs.average.FlowSum.mean.Statement.{statement}
-use Rattle.meters.proofs.average.FlowSum.mean.Tie as tie
+use Rattle.meters.proofs.sums.FlowSum.mean.Statement.{statement}
+use Rattle.meters.proofs.sums.FlowSum.mean.Tie as tie
 
 returns : tie.Need-returns
 unfolding meanOf

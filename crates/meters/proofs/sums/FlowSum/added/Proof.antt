@@ -3,8 +3,8 @@ use borrow.Author.Tests.{eq-eqb, le-leb, le-ltb, lt-leb, lt-ltb, ne-eqb}
 use Rattle.quantities.proofs.Tested.{passed, failed}
 use Rattle.meters.specs.Average.{addedOf}
 use borrow.Author.Needs.{needs}
-use Rattle.meters.proofs.average.FlowSum.added.Statement.{statement}
-use Rattle.meters.proofs.average.FlowSum.added.Tie as tie
+use Rattle.meters.proofs.sums.FlowSum.added.Statement.{statement}
+use Rattle.meters.proofs.sums.FlowSum.added.Tie as tie
 
 refused-requires : tie.Need-refused-requires
 refused-requires c κs = search needs
