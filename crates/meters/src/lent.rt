@@ -1,12 +1,12 @@
 ghost use mathlib.Core.Path.{_≡_};
 ghost use Rattle.meters.specs.Average.{averageOf, toldMean};
 ghost use Rattle.meters.specs.Meter.{switchedOf, receivedOf};
-use crate::sums::FlowSum;
-use crate::sums::Mean;
 use crate::flow::FlowProperties;
 use crate::meter::AverageFlowMeter;
 use crate::meter::Metered;
 use crate::meter::Reception;
+use crate::sums::FlowSum;
+use crate::sums::Mean;
 use quantities::Time;
 
 // The meter's two changes over a lent meter. Each answers the number; the meter is changed at 0,

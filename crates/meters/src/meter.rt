@@ -1,8 +1,8 @@
 ghost use mathlib.Core.Path.{_≡_};
 ghost use Rattle.meters.specs.Meter.{newMeter, startFit, meterFit, ready, enabledTime, switchedOf, recordedOf, receivedOf, readOf, toldRead};
+use crate::flow::FlowProperties;
 use crate::sums::average_rtt;
 use crate::sums::summed;
-use crate::flow::FlowProperties;
 use quantities::Information;
 use quantities::OptionTime;
 use quantities::Time;

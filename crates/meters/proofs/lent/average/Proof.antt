@@ -1,9 +1,8 @@
 -- A walk of the MIR, by hand. The slice is looked into once, before the loop, and shut once, after it. The loop keeps that the aggregator's fold over what is left, from the sums so far, is its fold over the whole list, which gives the mean of the list (`Fold.antt`).
 -- Assumes nothing.
 use mathlib.Core.Path.{_≡_, refl, sym, ap, _∙_}
-use Prim.Native.Nat.{ℕ, zero, suc, _+_, _-_, _*_, _≤_, _<_, _^_, zero-le}
+use Prim.Native.Nat.{ℕ, zero, suc, _+_, _-_, _*_, _≤_, _<_, _^_}
 use native.Mathlib.Nat.{not-suc-le-zero, le-of-suc-le-suc}
-use native.Mathlib.Numerals.{add-one-le}
 use native.Mathlib.Omega.{arith}
 use mathlib.Core.Bool.{Bool, true, false}
 use mathlib.Core.List.{List, [], _∷_}
@@ -178,7 +177,7 @@ module _ {M : Type 1} (𝓤 : URA M) (H : Heap 𝓤) (A : Atoms 𝓤) (W : Given
 
   -- ---- the loop: the place that it has reached, the sums so far, and what holds of them
   abbrev State : Type 0
-  State = (i : ℕ) × (s : FlowSum) × (i ≤ n) × (folded s (dropN i ys) ≡ folded startOf ys) × Is S.the-row s (sums s ∷ [])
+  State = (i : ℕ) × (s : FlowSum) × (folded s (dropN i ys) ≡ folded startOf ys) × Is S.the-row s (sums s ∷ [])
 
   abbrev Nearer : State → State → Type 0
   Nearer u t = n - u .0 < n - t .0
@@ -221,16 +220,16 @@ module _ {M : Type 1} (𝓤 : URA M) (H : Heap 𝓤) (A : Atoms 𝓤) (W : Given
           -- [the element; what it owns; the others; _8; …; _0; …; the open borrow; the slice]
           assigns ! (of-opd ! (load ! (from ! (hop ! (look ! 5 refl) (stop !))) (look-raw ! 0 refl))) (from ! (stop !)) (init ! 3 refl (LL.lawful F.the-type F′.the-laws 𝓤 H A W .typed y _ is-y .0)) $
           elem-back ! F.the-row q′ ys (t .0) none (flow y ∷ []) b o below $
-          use0 W (raw (Added 𝓤 H A at-mem run .pre (to-added (t .1) y))) (goes-added (t .1) y (t .4) is-y) $
+          use0 W (raw (Added 𝓤 H A at-mem run .pre (to-added (t .1) y))) (goes-added (t .1) y (t .3) is-y) $
           calls-at ! fm (Added 𝓤 H A at-mem run) known-added (to-added (t .1) y) (and-then ! (load ! (from ! (stop !)) (look ! 12 refl)) (and-then ! (load ! (from ! (stop !)) (look ! 2 refl)) (no-more !))) (λ v.
           use1 W (later (some (λ (r : FlowSum). (‵ ftrue ⊛ ‵ (S.the-row .own r (v ∷ []))) ⊛ raw (ensured 𝓤 H A added.ended (added.clauses 𝓤 H A at-mem run) tt (t .1, (y, tt)) tt r)))) (id⊢ 𝓤 _) $ await ! tt $ pick ! (λ r.
           split ! $ move ! (1 ∷ []) $ use1 W (raw (fact 𝓤 (r ≡ addedOf (t .1) y))) (added-said 𝓤 H A at-mem run (t .1) y r) $ heard ! (r ≡ addedOf (t .1) y) (λ is-added. split ! $ drop ! $
           peeks ! S.the-row (Is S.the-row) (shows 𝓤 H A S.the-row) r (v ∷ []) (λ is-v.
           land ! (from ! (stop !)) (store ! 12 refl (LL.lawful S.the-type S′.the-laws 𝓤 H A W .typed r _ is-v .0)) $
           rewrite ! 12 (λ (u : Val). ‵ (fat fullShare S′.mir l₃ 0 u)) (ap only (LL.tells S.the-type S′.the-laws r _ is-v)) refl $ drop ! $
-          assigns-last ! (bin ! (load ! (from ! (stop !)) (look ! 9 refl)) (lit ! tt) (record { fits = next-fits })) (from ! (stop !)) (store ! 9 refl (tt, record { fits = next-fits })) $
+          assigns-last ! (bin ! (load ! (from ! (stop !)) (look ! 9 refl)) (lit ! tt) (record { fits = omega (arith, below, room .1) })) (from ! (stop !)) (store ! 9 refl (tt, record { fits = omega (arith, below, room .1) })) $
           forget ! 1 refl $ forget ! 3 refl $ forget ! 5 refl $ forget ! 7 refl $
-          again ! Nearer At t (t .0 + 1, r, add-one-le below, one-more ys (t .0) (t .1) r below is-added (t .3), LL.owes S.the-type S′.the-laws r (LL.owed S.the-type S′.the-laws r _ is-v)) (omega (arith, below)))))))
+          again ! Nearer At t (_, r, one-more ys (t .0) (t .1) r below is-added (t .2), LL.owes S.the-type S′.the-laws r (LL.owed S.the-type S′.the-laws r _ is-v)) (omega (arith, below)))))))
         where
           below : t .0 < n
           below = ltb-true (t .0) n e
@@ -240,14 +239,11 @@ module _ {M : Type 1} (𝓤 : URA M) (H : Heap 𝓤) (A : Atoms 𝓤) (W : Given
 
           offset-fits : t .0 * 24 < 2 ^ 64
           offset-fits = omega (arith, below, room .1)
-
-          next-fits : t .0 + 1 < 2 ^ 64
-          next-fits = omega (arith, below, room .1)
       turn t false e =
           assigns ! (bin ! (load ! (from ! (stop !)) (look ! 9 refl)) (load ! (from ! (stop !)) (look ! 13 refl)) tt) (from ! (stop !)) (init ! 7 refl (tt, tt)) $
           rewrite ! 7 (λ (z : Bool). ‵ (fat fullShare tyBool l₅ 0 (vbool z))) e refl $ leaves-loop ! (load ! (from ! (stop !)) (look ! 7 refl)) $
           exec ! C Λ E body.t-5 (atRet E Post) $
-          use0 W (raw (Told 𝓤 H A at-mem run .pre (to-mean (t .1)))) (goes-mean (t .1) (t .4)) $
+          use0 W (raw (Told 𝓤 H A at-mem run .pre (to-mean (t .1)))) (goes-mean (t .1) (t .3)) $
           calls-at ! fm (Told 𝓤 H A at-mem run) known-mean (to-mean (t .1)) (and-then ! (load ! (from ! (stop !)) (look ! 12 refl)) (no-more !)) (λ v.
           use1 W (later (some (λ (r : Mean). (‵ ftrue ⊛ ‵ (R.the-row .own r (v ∷ []))) ⊛ raw (ensured 𝓤 H A mean.ended (mean.clauses 𝓤 H A at-mem run) tt (t .1, tt) tt r)))) (id⊢ 𝓤 _) $ await ! tt $ pick ! (λ r.
           split ! $ move ! (1 ∷ []) $ use1 W (raw (fact 𝓤 (toldMean r ≡ meanOf (t .1)))) (mean-said 𝓤 H A at-mem run (t .1) r) $ heard ! (toldMean r ≡ meanOf (t .1)) (λ is-told. split ! $ drop ! $
@@ -258,7 +254,7 @@ module _ {M : Type 1} (𝓤 : URA M) (H : Heap 𝓤) (A : Atoms 𝓤) (W : Given
           returns ! (look ! 18 refl) $ forget ! 8 refl $ forget ! 10 refl $ forget ! 12 refl $ forget ! 14 refl $ forget ! 16 refl $ forget ! 18 refl $
           move ! (18 ∷ 19 ∷ []) $ free1 ! $ move ! (16 ∷ 17 ∷ []) $ free1 ! $ move ! (14 ∷ 15 ∷ []) $ free1 ! $ move ! (12 ∷ 13 ∷ []) $ free1 ! $ move ! (10 ∷ 11 ∷ []) $ free1 ! $
           move ! (8 ∷ 9 ∷ []) $ free1 ! $ move ! (6 ∷ 7 ∷ []) $ free1 ! $ move ! (4 ∷ 5 ∷ []) $ free1 ! $ move ! (2 ∷ 3 ∷ []) $ free1 ! $ free0 ! $
-          by ! (exits r v (all-told ys (t .0) (t .1) r (ltb-false (t .0) n e) (t .3) is-told))))))
+          by ! (exits r v (all-told ys (t .0) (t .1) r (ltb-false (t .0) n e) (t .2) is-told))))))
 
       looped : (t : State) → Sq W (At t) (runs C Λ E body.t-4 (atRet E Post))
       looped t = first ! $ blocks ! $ loops ! 𝓣 Nearer Nearer-wf At (λ u. turn u (ltb (u .0) n) refl) t
@@ -283,7 +279,7 @@ module _ {M : Type 1} (𝓤 : URA M) (H : Heap 𝓤) (A : Atoms 𝓤) (W : Given
         move ! (18 ∷ []) $ use1 W (‵ Own ⊛ ‵ Own) (shr-slice-copy 𝓤 H A W (named 0) κ F.the-row .twice x (at .0)) $ split ! $ fsplit ! $ drop ! $ fsplit ! $ drop ! $ move ! (0 ∷ 20 ∷ []) $
         looks-slice ! tt F.the-row (Is F.the-row) (shows 𝓤 H A F.the-row) (LL.vals F.the-type F′.the-laws) (LL.tells F.the-type F′.the-laws) (LL.copy F.the-type F′.the-copy 𝓤 H A W) ys b o (λ q′.
         keep ! (0 ∷ 4 ∷ 5 ∷ 6 ∷ 7 ∷ 8 ∷ 9 ∷ 10 ∷ 11 ∷ 12 ∷ 13 ∷ 14 ∷ 15 ∷ 16 ∷ 17 ∷ 18 ∷ 19 ∷ 20 ∷ 21 ∷ 1 ∷ 3 ∷ []) $
-        looped q′ l₀ l₁ l₂ l₃ l₄ l₅ l₆ l₇ l₈ (0, r, zero-le, ap (λ (s : FlowSum). folded s ys) is-start, LL.owes S.the-type S′.the-laws r (LL.owed S.the-type S′.the-laws r _ is-v))))))))))))))))
+        looped q′ l₀ l₁ l₂ l₃ l₄ l₅ l₆ l₇ l₈ (_, r, ap (λ (s : FlowSum). folded s ys) is-start, LL.owes S.the-type S′.the-laws r (LL.owed S.the-type S′.the-laws r _ is-v))))))))))))))))
 
 module _ {M : Type 1} (𝓤 : URA M) (H : Heap 𝓤) (A : Atoms 𝓤) (W : Given 𝓤 H A) (at-mem : Memory → SProp 𝓤) (run : Routine → Fun 𝓤) (𝓣 : Tables 𝓤 H)
     (known-start : Triple 𝓤 (𝓣 .C start-def.name) (Start 𝓤 H A at-mem run)) (known-added : Triple 𝓤 (𝓣 .C added-def.name) (Added 𝓤 H A at-mem run)) (known-mean : Triple 𝓤 (𝓣 .C mean-def.name) (Told 𝓤 H A at-mem run)) where

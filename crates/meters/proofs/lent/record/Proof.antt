@@ -5,8 +5,9 @@ use denote.Triple.Spec.{tripleOf}
 use denote.Triple.Table.{entered, cited}
 use Rattle.meters.specs.Meter.{receivedOf}
 use Rattle.meters.proofs.Plain.{reception, time}
-use Rattle.meters.proofs.Thin.{ByValue, thin-meets}
-use Rattle.meters.proofs.meter.AverageFlowMeter.recorded.Symbol as method
+use Rattle.meters.proofs.Thin.{thin-meets}
+use Rattle.meters.proofs.meter.AverageFlowMeter.recorded as method
+use Rattle.meters.proofs.meter.AverageFlowMeter.recorded.Symbol as callee
 use Rattle.meters.proofs.meter.AverageFlowMeter.recorded.Met as known
 use Rattle.meters.proofs.lent.record.Key as key
 use Rattle.meters.proofs.lent.record as f
@@ -18,6 +19,8 @@ unfolding code.routine tablesOf
 record-spec 𝓤 H 𝓜 𝓖 𝓡 =
     entered 𝓤 H (tripleOf 𝓤 H (𝓖 .A) f.signature (f.spec 𝓤 H (𝓖 .A) (𝓜 .mem) (𝓡 .run)))
     (tables 𝓤 H 𝓜 𝓡 code.env .C) (tables 𝓤 H 𝓜 𝓡 code.env .Λ) key.name code.function (code.unfolded 𝓤 H 𝓜 𝓡)
-    (thin-meets reception time receivedOf 𝓤 H (𝓖 .A) (givenOf 𝓤 H 𝓜 𝓖) method.name (λ κs a g. f.clauses 𝓤 H (𝓖 .A) (𝓜 .mem) (𝓡 .run) κs a .ensures g) (λ κs a n ws. id⊢ 𝓤 _)
+    (thin-meets reception time receivedOf 𝓤 H (𝓖 .A) (givenOf 𝓤 H 𝓜 𝓖) callee.name
+    (λ κs a g. method.clauses 𝓤 H (𝓖 .A) (𝓜 .mem) (𝓡 .run) κs a .ensures g) (λ a r ws. id⊢ 𝓤 _)
+    (λ κs a g. f.clauses 𝓤 H (𝓖 .A) (𝓜 .mem) (𝓡 .run) κs a .ensures g) (λ κs a n ws. id⊢ 𝓤 _)
     (tablesOf 𝓤 H 𝓜 (tables 𝓤 H 𝓜 𝓡 code.env))
-    (cited 𝓤 H (ByValue reception time receivedOf 𝓤 H (𝓖 .A)) 𝓜 𝓡 code.env method.name method.routine code.calls-meters·meter·AverageFlowMeter·recorded (known.met 𝓤 H 𝓜 𝓖 𝓡)))
+    (cited 𝓤 H (tripleOf 𝓤 H (𝓖 .A) method.signature (method.spec 𝓤 H (𝓖 .A) (𝓜 .mem) (𝓡 .run))) 𝓜 𝓡 code.env callee.name callee.routine code.calls-meters·meter·AverageFlowMeter·recorded (known.met 𝓤 H 𝓜 𝓖 𝓡)))

@@ -1,4 +1,7 @@
 -- Each arm rewrites by its test and its case. Assumes nothing.
+use mathlib.Core.Path.{_≡_}
+use mathlib.Core.Bool.{false}
+use Rattle.quantities.specs.Doubles.{zeroF, power, inRange}
 use Rattle.quantities.proofs.Tested.{passed, failed}
 use Rattle.meters.specs.Average.{memberFit}
 use lib.Ieee.{ofBits}
@@ -11,7 +14,9 @@ in-range-requires c κs = search needs
 
 returns : tie.Need-returns
 unfolding memberFit ofBits
-returns c = rw (failed (c .before .in-range .ensures) (c .if1 .taken))
+returns c =
+    let out : inRange zeroF (power 60) (c .before .before .args .f .throughput .0) ≡ false = failed (c .before .in-range .ensures) (c .if1 .taken) in
+    rw out
 
 enum-told : tie.Need-enum-told
 enum-told c = search needs

@@ -1,4 +1,6 @@
 -- Each return rewrites by the tests and the case that led there. Assumes nothing.
+use mathlib.Core.Path.{_≡_}
+use mathlib.Core.Bool.{true}
 use borrow.Author.Tests.{not-false, not-true}
 use Rattle.quantities.proofs.Tested.{passed, failed}
 use Rattle.meters.specs.Meter.{switchedOf}
@@ -31,10 +33,11 @@ enum-known-start c = search needs
 returns-3 : tie.Need-returns-3
 unfolding switchedOf
 returns-3 c =
+    let asked : c .before .before .before .before .before .before .before .before .args .on ≡ true = c .if3 .taken in
     rw (
       passed (c .before .before .before .before .before .before .before .ready .ensures) (c .before .before .before .before .before .before .if1 .left),
       c .before .before .start .given .1,
-      c .if3 .taken,
+      asked,
     )
 
 sub-requires : tie.Need-sub-requires
