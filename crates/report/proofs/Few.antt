@@ -2,7 +2,7 @@
 use Prim.Native.Nat.{ℕ, zero, suc, _+_, _-_, _≤_, _<_}
 use mathlib.Core.Bool.{Bool, true, false, cond, true≢false}
 use mathlib.Core.List.{List, [], _∷_, _++_}
-use mathlib.Core.Path.{_≡_, refl, sym, ap, subst, _∙_}
+use mathlib.Core.Path.{_≡_, refl, sym, subst, _∙_}
 use native.Mathlib.Omega.{arith}
 use borrow.Author.Tests.{leb-true, ltb-true, le-leb}
 use lib.Dec.{leb, ltb, eqb}
@@ -22,7 +22,7 @@ use Rattle.report.specs.declared.run.Report.{Report}
 use Rattle.report.specs.declared.run.Filled.{Filled}
 use Rattle.report.specs.Network.{networkOf}
 use Rattle.report.specs.Lines.{flowLines, flowCount, recordLines, endLines, runLines}
-use Rattle.report.specs.Report.{leftAt, leftOf, reportOf, ForText, Puts, puts, none, FilledIs, Fewer}
+use Rattle.report.specs.Report.{leftAt, leftOf, reportOf, ForText, Puts, puts, none, FilledIs}
 
 -- ---- how many lines
 
@@ -87,21 +87,17 @@ puts-rest (l ∷ ls) out at =
     cond-elim (λ (p : Puts). length (p .rest) ≤ suc (length ls)) (leb (at + 128) (length out)) _ _
     (λ e. let h = puts-rest ls (written out at l) (at + length l) in omega (arith, h)) (λ e. omega arith)
 
-some : (ls : List (List ℕ)) → none ls ≡ false → 1 ≤ length ls
-some [] e = absurd (true≢false e)
-some (x ∷ xs) e = omega arith
-
-filled-by : (r : Filled) (out : List ℕ) → 128 ≤ length out → r .done ≡ false → (ls : List (List ℕ)) → r .done ≡ none (puts ls out 0 .rest) → leftOf (r .report) ≡ puts ls out 0 .rest → Fewer r ls
+filled-by : (r : Filled) (out : List ℕ) → 128 ≤ length out → r .done ≡ false → (ls : List (List ℕ)) → r .done ≡ none (puts ls out 0 .rest) → leftOf (r .report) ≡ puts ls out 0 .rest → length (leftOf (r .report)) < length ls
 unfolding puts
 filled-by r out room f [] d l = absurd (true≢false (sym d ∙ f))
 filled-by r out room f (x ∷ xs) d l =
     let long : leb 128 (length out) ≡ true = le-leb _ _ room in
     let rest = puts xs (written out 0 x) (0 + length x) .rest in
     let put : cond (leb 128 (length out)) (puts xs (written out 0 x) (0 + length x)) (record { at = 0; out = out; rest = x ∷ xs }) .rest ≡ rest = rw long in
-    let left : leftOf (r .report) ≡ rest = l ∙ put in
-    let least = some rest (sym (ap none put) ∙ sym d ∙ f) in
     let most = puts-rest xs (written out 0 x) (0 + length x) in
-    (subst (λ (ls : List (List ℕ)). 1 ≤ length ls) (sym left) least, subst (λ (ls : List (List ℕ)). length ls < suc (length xs)) (sym left) (omega (arith, most)))
+    subst (λ (ls : List (List ℕ)). length ls < suc (length xs)) (sym (l ∙ put)) (omega (arith, most))
 
-pub fills : (rep : Report) (out after : List ℕ) (r : Filled) → 128 ≤ length out → FilledIs (puts (leftOf rep) out 0) r after → r .done ≡ false → Fewer r (leftOf rep)
+-- where any line is left, there are fewer than before
+pub fills : (rep : Report) (out after : List ℕ) (r : Filled) → 128 ≤ length out → FilledIs (puts (leftOf rep) out 0) r after → r .done ≡ false
+    → length (leftOf (r .report)) < length (leftOf rep)
 fills rep out after r room w f = filled-by r out room f (leftOf rep) (w .done) (w .left)

@@ -1,4 +1,4 @@
 mod Putting
 mod Running
-mod Printed
+pub mod Printed
 pub mod Few

@@ -1,5 +1,5 @@
 -- What is printed for a text, and what of it is put into a buffer (document 01, "The text program"). Definitions only.
-use Prim.Native.Nat.{ℕ, _+_, _≤_, _<_}
+use Prim.Native.Nat.{ℕ, _+_}
 use mathlib.Core.Bool.{Bool, true, false, cond}
 use mathlib.Core.List.{List, [], _∷_}
 use mathlib.Core.Path.{_≡_}
@@ -102,7 +102,3 @@ pub record RecordsIs (n : ℕ) (s : Simulation) (p : Puts) (r : Filled) (after :
   pub bytes : after ≡ p .out
   pub done : r .done ≡ false
   pub here : FromHere n s (p .rest) (r .report .simulation) (r .report .stage)
-
--- some lines are left, and fewer than there were
-abbrev pub Fewer : Filled → List (List ℕ) → Type 0
-Fewer r lines = (1 ≤ length (leftOf (r .report))) × (length (leftOf (r .report)) < length lines)
