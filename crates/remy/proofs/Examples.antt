@@ -1,4 +1,4 @@
--- The worked example of document 01 and a line without delay, computed: what these definitions do, where the account alone would let them do otherwise.
+-- Runs from built networks, computed: what these definitions do, where the account alone would let them do otherwise. States made by hand are in Stops.
 -- The crate `points` has the worked example whole. Assumes nothing.
 use mathlib.Core.Path.{_≡_, refl}
 use mathlib.Core.Bool.{false}
@@ -9,12 +9,13 @@ use lib.ListN.{replicate}
 use lib.Ieee.{Float, nan, fin}
 use Rattle.quantities.specs.declared.time.OptionTime.the-variants.{Some}
 use Rattle.quantities.specs.Doubles.{zeroF, power}
-use Rattle.quantities.specs.Units.{timeOf, amountOf}
+use Rattle.quantities.specs.Units.{spanOf, timeOf, amountOf}
 use Rattle.rand.specs.declared.distribution.ContinuousDistribution.the-variants.{Always}
 use Rattle.rand.specs.Generator.{fromWords}
 use Rattle.components.specs.declared.link.Limit.{Limit}
 use Rattle.components.specs.declared.link.Limit.the-variants as Limit
-use Rattle.components.specs.declared.lossy.Policy.the-variants.{Held}
+use Rattle.components.specs.declared.lossy.Policy.{Policy}
+use Rattle.components.specs.declared.lossy.Policy.the-variants.{Held, Timed}
 use Rattle.components.specs.Queue.{queuePlaces, noQueued}
 use Rattle.remy.specs.declared.simulation.Simulation.{Simulation}
 use Rattle.remy.specs.declared.simulation.Mark.{Mark}
@@ -22,15 +23,24 @@ use Rattle.remy.specs.declared.simulation.Mark.the-variants as Mark
 use Rattle.remy.specs.declared.simulation.Name.{Name}
 use Rattle.remy.specs.declared.simulation.Name.the-variants as Name
 use Rattle.remy.specs.declared.simulation.TickRecord.{TickRecord}
-use Rattle.remy.specs.State.{withLine, withQueued}
+use Rattle.remy.specs.State.{withLine, withQueued, meterAt}
 use Rattle.remy.specs.Build.{buildOf}
 use Rattle.remy.specs.Tick.{tickOf}
 use Rattle.remy.specs.History.{Call, tick, after, history}
 use Rattle.remy.proofs.Opened.{ticking}
 
--- rate 8, loss 0, bits 8, one sender, on always 100, off always 1; seed 1
-abbrev built : Float → Limit → ℕ → Simulation
-built delay limit window =
+abbrev three : Float
+three = fin false 3 (pos 0)
+
+abbrev five : Float
+five = fin false 5 (pos 0)
+
+abbrev hundred : Float
+hundred = fin false 25 (pos 2)
+
+-- rate 8, loss 0, bits 8, one sender, on and off always so long; seed 1
+abbrev builtWith : Float → Limit → Float → Float → Policy → Simulation
+builtWith delay limit on off policy =
     buildOf
     (record {
       delay = delay;
@@ -39,14 +49,18 @@ built delay limit window =
       limit = limit;
       bits = 8;
       senders = 1;
-      on = Always (fin false 25 (pos 2));
-      off = Always (power 0);
-      policy = Held window;
+      on = Always on;
+      off = Always off;
+      policy = policy;
     })
     1
     .simulation
 
-abbrev ticks : ℕ → List Call
+-- on 100, off 1, held
+abbrev pub built : Float → Limit → ℕ → Simulation
+built delay limit window = builtWith delay limit hundred (power 0) (Held window)
+
+abbrev pub ticks : ℕ → List Call
 ticks zero = []
 ticks (suc n) = tick ∷ ticks n
 
@@ -61,7 +75,7 @@ none = Name.None
 
 -- ---- the worked example: delay 1, limit 8, held 3
 
-abbrev worked : Simulation
+abbrev pub worked : Simulation
 worked = built (power 0) (Limit.Bits 8) 3
 
 -- the toggler, which is next, was removed from the queue, and nothing else is queued
@@ -86,9 +100,15 @@ worked-words : after (ticks 7) worked .line .rng ≡ fromWords 14956314531195876
 unfolding ticking
 worked-words = refl
 
+-- 0:1 came after 1 s, and 0:2, which had waited, after 2 s
+worked-meter : meterAt (after (ticks 8) worked) 0
+    ≡ record { «total_time» = spanOf zeroF; «current_start» = Some (timeOf (power 0)); total = amountOf 16; records = 2; «rtt_sum» = spanOf three }
+unfolding ticking
+worked-meter = refl
+
 -- ---- a state with waiting bits other than the waiting packets' bits is refused with 9
 
-abbrev withBits : Simulation → ℕ → Simulation
+abbrev pub withBits : Simulation → ℕ → Simulation
 withBits s bits =
     withLine s
     (record {
@@ -102,6 +122,37 @@ withBits s bits =
 unfit-bits : tickOf (withBits worked 1) .number ≡ 9
 unfolding ticking
 unfit-bits = refl
+
+-- ---- delay 4, no limit, on 2, off 1, held 1: the sender sends again when it is switched on again, and its packet of before is old
+
+restarted-history : history (ticks 8) (builtWith (power 2) Limit.None (power 1) (power 0) (Held 1))
+    ≡ line (power 0) 2 Mark.Enabled none none
+    ∷ line (power 0) 1 Mark.Sent (packet 1) none
+    ∷ line (power 0) 0 Mark.None none (packet 1)
+    ∷ line three 2 Mark.Disabled none none
+    ∷ line (power 2) 2 Mark.Enabled none none
+    ∷ line (power 2) 1 Mark.Sent (packet 2) none
+    ∷ line (power 2) 0 Mark.None none (packet 2)
+    ∷ line five 0 Mark.Old (packet 1) none
+    ∷ []
+unfolding ticking
+restarted-history = refl
+
+-- ---- timed 1 with a gap of 2: the timer is the first send's, and goes alone though the sender may send
+
+timed-history : history (ticks 9) (builtWith (power 0) Limit.None hundred (power 0) (Timed 1 (power 1)))
+    ≡ line (power 0) 2 Mark.Enabled none none
+    ∷ line (power 0) 1 Mark.Sent (packet 1) none
+    ∷ line (power 0) 0 Mark.None none (packet 1)
+    ∷ line (power 1) 0 Mark.Counted (packet 1) none
+    ∷ line (power 1) 1 Mark.Sent (packet 2) none
+    ∷ line (power 1) 0 Mark.None none (packet 2)
+    ∷ line three 0 Mark.Counted (packet 2) none
+    ∷ line three 1 Mark.Timer none none
+    ∷ line three 1 Mark.Sent (packet 3) none
+    ∷ []
+unfolding ticking
+timed-history = refl
 
 -- ---- delay 0, no limit, held 1: a packet that starts in one tick of the link leaves in the next
 
