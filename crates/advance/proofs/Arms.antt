@@ -11,31 +11,31 @@ use Rattle.quantities.specs.Units.{spanOf, rateOf, amountOf}
 use Rattle.meters.specs.declared.meter.AverageFlowMeter.{AverageFlowMeter}
 use Rattle.meters.specs.declared.meter.Metered.{Metered}
 use Rattle.meters.specs.Meter.{switchedOf}
-use Rattle.components.specs.declared.packet.Packet.{Packet}
-use Rattle.components.specs.declared.link.Line.{Line}
-use Rattle.components.specs.declared.link.Arrival.{Arrival}
-use Rattle.components.specs.declared.link.Left.{Left}
-use Rattle.components.specs.declared.link.Left.the-variants as Left
-use Rattle.components.specs.declared.link.Begun.{Begun}
-use Rattle.components.specs.declared.link.Begun.the-variants as Begun
-use Rattle.components.specs.declared.link.Delivered.{Delivered}
-use Rattle.components.specs.declared.link.Transmitted.{Transmitted}
-use Rattle.components.specs.declared.toggler.Toggler.{Toggler}
-use Rattle.components.specs.declared.toggler.Toggled.{Toggled}
-use Rattle.components.specs.Ring.{places, placeAfter}
-use Rattle.components.specs.Toggler.{toggleOf}
-use Rattle.components.specs.declared.lossy.LossySender.{LossySender}
-use Rattle.components.specs.declared.lossy.SenderState.{SenderState}
-use Rattle.components.specs.declared.lossy.SenderState.the-variants as State
-use Rattle.components.specs.declared.lossy.TimerTicked.{TimerTicked}
-use Rattle.components.specs.declared.lossy.Sent.{Sent}
-use Rattle.components.specs.declared.lossy.Heard.{Heard}
-use Rattle.components.specs.declared.lossy.Heard.the-variants as Heard
-use Rattle.components.specs.declared.lossy.Returned.{Returned}
-use Rattle.components.specs.declared.tick_queue.Picked.{Picked}
-use Rattle.components.specs.Link.{admits, admitted, receiveOf, tryDeliver, tryTransmit}
-use Rattle.components.specs.Sender.{returnedOf, timerDue, tickTimer, tickSend}
-use Rattle.components.specs.Queue.{noQueued, pickOf}
+use Rattle.link.specs.declared.packet.Packet.{Packet}
+use Rattle.link.specs.declared.link.Line.{Line}
+use Rattle.link.specs.declared.link.Arrival.{Arrival}
+use Rattle.link.specs.declared.link.Left.{Left}
+use Rattle.link.specs.declared.link.Left.the-variants as Left
+use Rattle.link.specs.declared.link.Begun.{Begun}
+use Rattle.link.specs.declared.link.Begun.the-variants as Begun
+use Rattle.link.specs.declared.link.Delivered.{Delivered}
+use Rattle.link.specs.declared.link.Transmitted.{Transmitted}
+use Rattle.toggler.specs.declared.toggler.Toggler.{Toggler}
+use Rattle.toggler.specs.declared.toggler.Toggled.{Toggled}
+use Rattle.link.specs.Ring.{places, placeAfter}
+use Rattle.toggler.specs.Toggler.{toggleOf}
+use Rattle.sender.specs.declared.lossy.LossySender.{LossySender}
+use Rattle.sender.specs.declared.lossy.SenderState.{SenderState}
+use Rattle.sender.specs.declared.lossy.SenderState.the-variants as State
+use Rattle.sender.specs.declared.lossy.TimerTicked.{TimerTicked}
+use Rattle.sender.specs.declared.lossy.Sent.{Sent}
+use Rattle.sender.specs.declared.lossy.Heard.{Heard}
+use Rattle.sender.specs.declared.lossy.Heard.the-variants as Heard
+use Rattle.sender.specs.declared.lossy.Returned.{Returned}
+use Rattle.toggler.specs.declared.tick_queue.Picked.{Picked}
+use Rattle.link.specs.Link.{admits, admitted, receiveOf, tryDeliver, tryTransmit}
+use Rattle.sender.specs.Sender.{returnedOf, timerDue, tickTimer, tickSend}
+use Rattle.toggler.specs.Queue.{noQueued, pickOf}
 use Rattle.remy.specs.declared.simulation.Simulation.{Simulation}
 use Rattle.remy.specs.declared.simulation.Mark.the-variants as Mark
 use Rattle.remy.specs.declared.simulation.Name.the-variants as Name

@@ -13,21 +13,21 @@ use Rattle.quantities.specs.declared.information_rate.InformationRate.{Informat
 use Rattle.quantities.specs.Units.{spanOf, rateOf, amountOf, amountOverRate}
 use Rattle.meters.specs.declared.meter.Metered.{Metered}
 use Rattle.meters.specs.Meter.{switchedOf}
-use Rattle.components.specs.declared.packet.Packet.{Packet}
-use Rattle.components.specs.declared.packet.Transit.{Transit}
-use Rattle.components.specs.declared.link.Limit.{Limit}
-use Rattle.components.specs.declared.link.Line.{Line}
-use Rattle.components.specs.declared.link.Arrival.{Arrival}
-use Rattle.components.specs.declared.link.Transmitted.{Transmitted}
-use Rattle.components.specs.declared.lossy.LossySender.{LossySender}
-use Rattle.components.specs.declared.toggler.Toggled.{Toggled}
-use Rattle.components.specs.declared.tick_queue.Queued.{Queued}
-use Rattle.components.specs.declared.tick_queue.Picked.{Picked}
-use Rattle.components.specs.Ring.{places}
-use Rattle.components.specs.NewTime.{newTime}
-use Rattle.components.specs.Link.{admits, admitted, receiveOf, isFree, tryDeliver, tryTransmit}
-use Rattle.components.specs.Toggler.{toggleOf}
-use Rattle.components.specs.Queue.{noQueued, pickOf}
+use Rattle.link.specs.declared.packet.Packet.{Packet}
+use Rattle.link.specs.declared.packet.Transit.{Transit}
+use Rattle.link.specs.declared.link.Limit.{Limit}
+use Rattle.link.specs.declared.link.Line.{Line}
+use Rattle.link.specs.declared.link.Arrival.{Arrival}
+use Rattle.link.specs.declared.link.Transmitted.{Transmitted}
+use Rattle.sender.specs.declared.lossy.LossySender.{LossySender}
+use Rattle.toggler.specs.declared.toggler.Toggled.{Toggled}
+use Rattle.toggler.specs.declared.tick_queue.Queued.{Queued}
+use Rattle.toggler.specs.declared.tick_queue.Picked.{Picked}
+use Rattle.link.specs.Ring.{places}
+use Rattle.quantities.specs.NewTime.{newTime}
+use Rattle.link.specs.Link.{admits, admitted, receiveOf, isFree, tryDeliver, tryTransmit}
+use Rattle.toggler.specs.Toggler.{toggleOf}
+use Rattle.toggler.specs.Queue.{noQueued, pickOf}
 use Rattle.remy.specs.declared.simulation.Head.{Head}
 use Rattle.remy.specs.declared.simulation.Simulation.{Simulation}
 use Rattle.remy.specs.declared.simulation.TickRecord.{TickRecord}

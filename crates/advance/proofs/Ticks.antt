@@ -10,16 +10,16 @@ use lib.Ieee.{lt, eq}
 use borrow.Author.Tests.{leb-true, ltb-true, eqb-true, lt-ltb}
 use Rattle.quantities.specs.Doubles.{power}
 use Rattle.rand.specs.Draws.{unitOf}
-use Rattle.components.specs.declared.packet.Packet.{Packet}
-use Rattle.components.specs.declared.link.Left.{Left}
-use Rattle.components.specs.declared.link.Left.the-variants as Left
-use Rattle.components.specs.declared.link.Delivered.{Delivered}
-use Rattle.components.specs.declared.tick_queue.Queued.{Queued}
-use Rattle.components.specs.declared.tick_queue.Picked.{Picked}
-use Rattle.components.specs.Ring.{places}
-use Rattle.components.specs.Link.{isDue, departed, tryDeliver}
-use Rattle.components.specs.Queue.{pickOf}
-use Rattle.components.proofs.Items.{Sound, items-length}
+use Rattle.link.specs.declared.packet.Packet.{Packet}
+use Rattle.link.specs.declared.link.Left.{Left}
+use Rattle.link.specs.declared.link.Left.the-variants as Left
+use Rattle.link.specs.declared.link.Delivered.{Delivered}
+use Rattle.toggler.specs.declared.tick_queue.Queued.{Queued}
+use Rattle.toggler.specs.declared.tick_queue.Picked.{Picked}
+use Rattle.link.specs.Ring.{places}
+use Rattle.link.specs.Link.{isDue, departed, tryDeliver}
+use Rattle.toggler.specs.Queue.{pickOf}
+use Rattle.link.proofs.Items.{Sound, items-length}
 use Rattle.remy.specs.declared.simulation.Next.{Next}
 use Rattle.remy.specs.declared.simulation.Next.the-variants as Next
 use Rattle.remy.specs.declared.simulation.Simulation.{Simulation}

@@ -83,7 +83,7 @@ pub fn advance(simulation: Simulation, n: u32) -> Advanced
                 let sender_slot = turns::sender_slot(h.heard, sender_after, clock, old_sender);
                 st.queue[place] = sender_slot;
                 let queue = st.queue;
-                let best = components::tick_queue::pick(queue);
+                let best = toggler::tick_queue::pick(queue);
                 let part = best.part;
                 let old_best = st.queue[part];
                 let cleared = turns::place_after(best, old_best);
@@ -137,7 +137,7 @@ pub fn advance(simulation: Simulation, n: u32) -> Advanced
                 let link_slot = turns::link_slot(b.arrives, after, clock, front_after, old_link);
                 st.queue[0] = link_slot;
                 let queue = st.queue;
-                let best = components::tick_queue::pick(queue);
+                let best = toggler::tick_queue::pick(queue);
                 let part = best.part;
                 let old_best = st.queue[part];
                 let cleared = turns::place_after(best, old_best);
@@ -182,7 +182,7 @@ pub fn advance(simulation: Simulation, n: u32) -> Advanced
                 let sender_slot = turns::sender_slot(true, sender_after, clock, old_sender);
                 st.queue[place] = sender_slot;
                 let queue = st.queue;
-                let best = components::tick_queue::pick(queue);
+                let best = toggler::tick_queue::pick(queue);
                 let part = best.part;
                 let old_best = st.queue[part];
                 let cleared = turns::place_after(best, old_best);

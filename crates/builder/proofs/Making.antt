@@ -9,10 +9,10 @@ use Rattle.rand.specs.declared.generator.Rng.{Rng}
 use Rattle.rand.specs.declared.generator.Child.{Child}
 use Rattle.rand.specs.declared.distribution.ContinuousDistribution.{ContinuousDistribution}
 use Rattle.rand.specs.Generator.{childOf}
-use Rattle.components.specs.declared.lossy.LossySender.{LossySender}
-use Rattle.components.specs.declared.toggler.Toggler.{Toggler}
-use Rattle.components.specs.declared.toggler.Toggled.{Toggled}
-use Rattle.components.specs.Toggler.{newToggler}
+use Rattle.sender.specs.declared.lossy.LossySender.{LossySender}
+use Rattle.toggler.specs.declared.toggler.Toggler.{Toggler}
+use Rattle.toggler.specs.declared.toggler.Toggled.{Toggled}
+use Rattle.toggler.specs.Toggler.{newToggler}
 use Rattle.remy.specs.Build.{Parts, newSender, noParts, populate}
 use Rattle.builder.specs.declared.parts.Made.{Made}
 use Rattle.builder.specs.Parts.{toldParts, partsOf}

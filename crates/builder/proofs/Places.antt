@@ -10,9 +10,9 @@ use lib.ListN.{length, take, set}
 use lib.Seq.{take-all, take-suc-set}
 use Rattle.quantities.specs.declared.time.OptionTime.{OptionTime}
 use Rattle.quantities.specs.declared.time.OptionTime.the-variants.{None, Some}
-use Rattle.components.specs.declared.tick_queue.Queued.{Queued}
-use Rattle.components.specs.Link.{nextTick}
-use Rattle.components.specs.Sender.{senderNext}
+use Rattle.toggler.specs.declared.tick_queue.Queued.{Queued}
+use Rattle.link.specs.Link.{nextTick}
+use Rattle.sender.specs.Sender.{senderNext}
 use Rattle.remy.specs.declared.simulation.Simulation.{Simulation}
 use Rattle.remy.specs.State.{link, sender, toggler, nobody, roleOf, senderAt, togglerAt, frontOf}
 use Rattle.remy.specs.Queue.{ownTime, nextTimeOf}

@@ -1,7 +1,7 @@
 -- The parts that the code makes, as those of the build's definition. Definitions only.
 use mathlib.Core.List.{List}
-use Rattle.components.specs.declared.lossy.LossySender.{LossySender}
-use Rattle.components.specs.declared.toggler.Toggler.{Toggler}
+use Rattle.sender.specs.declared.lossy.LossySender.{LossySender}
+use Rattle.toggler.specs.declared.toggler.Toggler.{Toggler}
 use Rattle.remy.specs.Build.{Parts}
 use Rattle.builder.specs.declared.parts.Made.{Made}
 

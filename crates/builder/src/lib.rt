@@ -12,8 +12,6 @@ use crate::parts::make;
 use crate::queue::pick_next;
 use crate::queue::queue_all;
 use crate::state::fresh;
-use components::LossySender;
-use components::Toggler;
 use fitness::network_stop;
 use quantities::Time;
 use quantities::TimeSpan;
@@ -22,7 +20,9 @@ use remy::Built;
 use remy::Head;
 use remy::Next;
 use remy::RemyNetwork;
+use sender::LossySender;
 pub use state::empty_simulation;
+use toggler::Toggler;
 
 // A refused build: the number, and the empty simulation.
 fn refuse(number: u32) -> Built

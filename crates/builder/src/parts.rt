@@ -2,19 +2,19 @@ ghost use mathlib.Core.Path.{_≡_};
 ghost use Prim.Native.Nat.{_≤_};
 ghost use Rattle.remy.specs.Build.{newLine, newSender, blankPacket, blankTransit, blankToggler, zeroWords, noParts, populate};
 ghost use Rattle.builder.specs.Parts.{toldParts};
-use components::Line;
-use components::LossySender;
-use components::Packet;
-use components::Ring;
-use components::SenderState;
-use components::Toggler;
-use components::Transit;
-use components::toggler::create;
+use link::Line;
+use link::Packet;
+use link::Ring;
+use link::Transit;
 use quantities::Information;
 use quantities::Time;
 use quantities::TimeSpan;
 use rand::ContinuousDistribution;
 use rand::Rng;
+use sender::LossySender;
+use sender::SenderState;
+use toggler::Toggler;
+use toggler::create;
 
 // The senders and togglers of a build, and the number: 8 where a first toggle's draw was spent, with
 // those made so far.

@@ -3,11 +3,11 @@ ghost use Prim.Native.Nat.{_-_, _/_, _<_};
 ghost use Rattle.remy.specs.Queue.{picked};
 ghost use Rattle.remy.specs.Build.{queuedAll};
 ghost use Rattle.builder.specs.Times.{timeAt};
-use components::Queued;
-use components::link::next_tick;
-use components::tick_queue::pick;
+use link::next_tick;
 use quantities::OptionTime;
 use remy::Simulation;
+use toggler::Queued;
+use toggler::tick_queue::pick;
 use turns::head_of;
 use turns::place_after;
 

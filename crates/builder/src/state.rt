@@ -6,11 +6,7 @@ use crate::parts::blank_packet;
 use crate::parts::blank_transit;
 use crate::parts::new_line;
 use crate::parts::no_parts;
-use components::Limit;
-use components::LossySender;
-use components::Policy;
-use components::Queued;
-use components::Toggler;
+use link::Limit;
 use meters::AverageFlowMeter;
 use quantities::OptionTime;
 use quantities::Time;
@@ -21,6 +17,10 @@ use remy::Head;
 use remy::Next;
 use remy::RemyNetwork;
 use remy::Simulation;
+use sender::LossySender;
+use sender::Policy;
+use toggler::Queued;
+use toggler::Toggler;
 
 // A simulation in which nothing was sent, waits, moves, was counted or is queued.
 pub(crate) fn fresh(

@@ -8,9 +8,9 @@ use lib.Dec.{leb, ltb, eqb}
 use lib.Ieee.{le}
 use borrow.Author.Tests.{leb-true, ltb-true, eqb-true, not-false}
 use Rattle.quantities.specs.Doubles.{zeroF}
-use Rattle.components.specs.declared.ring.Ring.{Ring}
-use Rattle.components.specs.declared.link.Line.{Line}
-use Rattle.components.specs.Ring.{places}
+use Rattle.link.specs.declared.ring.Ring.{Ring}
+use Rattle.link.specs.declared.link.Line.{Line}
+use Rattle.link.specs.Ring.{places}
 use Rattle.remy.specs.declared.network.RemyNetwork.{RemyNetwork}
 use Rattle.remy.specs.declared.simulation.Head.{Head}
 use Rattle.remy.specs.Network.{networkStop}

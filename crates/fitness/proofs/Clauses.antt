@@ -10,12 +10,12 @@ use lib.Dec.{leb, ltb, eqb}
 use Rattle.quantities.specs.declared.time.OptionTime.{OptionTime}
 use Rattle.quantities.specs.declared.time.OptionTime.the-variants.{None, Some}
 use Rattle.meters.specs.Meter.{isOn, totalFit, sumFit}
-use Rattle.components.specs.declared.packet.Packet.{Packet}
-use Rattle.components.specs.declared.packet.Transit.{Transit}
-use Rattle.components.specs.declared.lossy.Policy.{Policy}
-use Rattle.components.specs.declared.lossy.SenderState.{SenderState}
-use Rattle.components.specs.Ring.{itemsFrom}
-use Rattle.components.specs.declared.lossy.SenderState.the-variants as State
+use Rattle.link.specs.declared.packet.Packet.{Packet}
+use Rattle.link.specs.declared.packet.Transit.{Transit}
+use Rattle.sender.specs.declared.lossy.Policy.{Policy}
+use Rattle.sender.specs.declared.lossy.SenderState.{SenderState}
+use Rattle.link.specs.Ring.{itemsFrom}
+use Rattle.sender.specs.declared.lossy.SenderState.the-variants as State
 use Rattle.remy.specs.declared.simulation.Simulation.{Simulation}
 use Rattle.remy.specs.Network.{between, windowFit}
 use Rattle.remy.specs.State.{Role, link, sender, toggler, nobody, senderAt, togglerAt, meterAt, frontOf, totalBits}

@@ -6,7 +6,7 @@ use borrow.Author.Tests.{not-true, not-false, leb-true, ltb-true}
 use lib.Dec.{leb, ltb}
 use Rattle.quantities.specs.declared.time.Time.{Time}
 use Rattle.quantities.specs.Units.{spanOf, after}
-use Rattle.components.specs.Ring.{places}
+use Rattle.link.specs.Ring.{places}
 use Rattle.remy.specs.declared.simulation.Simulation.{Simulation}
 use Rattle.remy.specs.Fit.{ringsFit, fit}
 use Rattle.remy.proofs.Facts.{both-l, both-r, fit-state}

@@ -9,14 +9,14 @@ use Rattle.quantities.specs.declared.time.Time.{Time}
 use Rattle.quantities.specs.declared.time.OptionTime.{OptionTime}
 use Rattle.meters.specs.declared.meter.AverageFlowMeter.{AverageFlowMeter}
 use Rattle.meters.specs.Meter.{isOn}
-use Rattle.components.specs.declared.packet.Packet.{Packet}
-use Rattle.components.specs.declared.packet.Transit.{Transit}
-use Rattle.components.specs.declared.link.Line.{Line}
-use Rattle.components.specs.declared.lossy.Policy.{Policy}
-use Rattle.components.specs.declared.lossy.LossySender.{LossySender}
-use Rattle.components.specs.declared.toggler.Toggler.{Toggler}
-use Rattle.components.specs.declared.tick_queue.Queued.{Queued}
-use Rattle.components.specs.Queue.{noQueued}
+use Rattle.link.specs.declared.packet.Packet.{Packet}
+use Rattle.link.specs.declared.packet.Transit.{Transit}
+use Rattle.link.specs.declared.link.Line.{Line}
+use Rattle.sender.specs.declared.lossy.Policy.{Policy}
+use Rattle.sender.specs.declared.lossy.LossySender.{LossySender}
+use Rattle.toggler.specs.declared.toggler.Toggler.{Toggler}
+use Rattle.toggler.specs.declared.tick_queue.Queued.{Queued}
+use Rattle.toggler.specs.Queue.{noQueued}
 use Rattle.remy.specs.declared.simulation.Next.{Next}
 use Rattle.remy.specs.State.{noSender, noToggler, noMeter}
 use Rattle.remy.specs.Fit.{held}

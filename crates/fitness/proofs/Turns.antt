@@ -13,8 +13,8 @@ use lib.ListN.{length, getD, set, replicate, length-set, length-replicate, getD-
 use lib.Seq.{getD-set-same, getD-set-other}
 use lib.Ieee.{le}
 use borrow.Author.Tests.{eq-eqb, ne-eqb}
-use Rattle.components.specs.declared.packet.Transit.{Transit}
-use Rattle.components.specs.Ring.{places, itemsFrom}
+use Rattle.link.specs.declared.packet.Transit.{Transit}
+use Rattle.link.specs.Ring.{places, itemsFrom}
 use Rattle.remy.specs.Fit.{every, upTo, rising}
 use Rattle.fitness.specs.Tests.{tally, Counts}
 

@@ -2,7 +2,7 @@ ghost use mathlib.Core.Path.{_≡_};
 ghost use Rattle.remy.specs.Fit.{held};
 ghost use Rattle.fitness.specs.Tests.{ringsTest, clockHeld, pastTest, frameTest};
 use crate::network::network_stop;
-use components::Line;
+use link::Line;
 use quantities::Time;
 use quantities::float::in_range;
 use remy::Head;

@@ -1,11 +1,11 @@
 ghost use mathlib.Core.Bool.{cond};
 ghost use mathlib.Core.Path.{_≡_};
 ghost use Rattle.remy.specs.Network.{limitFit, sizesFit, timesFit, windowFit, policyFit, networkStop};
-use components::Limit;
-use components::Policy;
+use link::Limit;
 use quantities::float::in_range;
 use rand::ContinuousDistribution;
 use remy::RemyNetwork;
+use sender::Policy;
 
 // The number of the lowest range that a network is not in, 1 to 7, or 0.
 pub fn network_stop(network: RemyNetwork) -> u32

@@ -3,11 +3,11 @@ ghost use Prim.Native.Nat.{_≤_, _<_};
 ghost use Rattle.fitness.specs.Tests.{sentTest, waitingTest, onLineTest, dueTest, packetsTest, waitingOf, onLineOf, Counts, firstDue};
 use crate::frame::past_fit;
 use crate::frame::time_held;
-use components::LossySender;
-use components::Packet;
-use components::Ring;
-use components::Transit;
+use link::Packet;
+use link::Ring;
+use link::Transit;
 use quantities::Time;
+use sender::LossySender;
 
 // Whether a packet's sequence number is in 1..sent, where its sender sent so many, and it was sent in
 // 0..clock and not after 2^41.

@@ -4,14 +4,14 @@ ghost use Rattle.remy.specs.Fit.{isNext, sameTime};
 ghost use Rattle.fitness.specs.Tests.{queuedTest, placeTest, emptyTest, partTime, nextTest, placesTest, queueTest};
 use crate::frame::time_held;
 use crate::senders::is_on;
-use components::Line;
-use components::LossySender;
-use components::Queued;
-use components::Toggler;
-use components::link::next_tick;
+use link::Line;
+use link::next_tick;
 use quantities::OptionTime;
 use quantities::Time;
 use remy::Next;
+use sender::LossySender;
+use toggler::Queued;
+use toggler::Toggler;
 
 // The own next time of part k, among n senders. `due` is the first due time on the line.
 //

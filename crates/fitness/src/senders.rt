@@ -8,15 +8,15 @@ ghost use Rattle.fitness.specs.Tests.{Few, timerTest, enabledTest, state
 use crate::frame::past_fit;
 use crate::frame::time_held;
 use crate::network::window_fit;
-use components::Enabled;
-use components::LossySender;
-use components::Policy;
-use components::SenderState;
-use components::Toggler;
 use meters::AverageFlowMeter;
 use quantities::OptionTime;
 use quantities::Time;
 use quantities::float::in_range;
+use sender::Enabled;
+use sender::LossySender;
+use sender::Policy;
+use sender::SenderState;
+use toggler::Toggler;
 
 // Whether a policy holds a timer.
 fn is_timed(policy: Policy) -> bool

@@ -8,15 +8,10 @@ use crate::read::narrow;
 use crate::read::network_at;
 use crate::read::size;
 use crate::read::time_if_any;
-use components::Enabled;
-use components::Line;
-use components::LossySender;
-use components::Packet;
-use components::Queued;
-use components::Ring;
-use components::SenderState;
-use components::Toggler;
-use components::Transit;
+use link::Line;
+use link::Packet;
+use link::Ring;
+use link::Transit;
 use meters::AverageFlowMeter;
 use quantities::Information;
 use quantities::TimeSpan;
@@ -26,6 +21,11 @@ use remy::Next;
 use remy::Simulation;
 use script::absent;
 use script::number;
+use sender::Enabled;
+use sender::LossySender;
+use sender::SenderState;
+use toggler::Queued;
+use toggler::Toggler;
 
 // V and the fields of a network
 pub(crate) fn network(text: &[u8], at: usize, st: Simulation) -> Simulation {

@@ -30,8 +30,8 @@ mod read;
 mod sink;
 mod whole;
 
-use components::NewTime;
 use print::moment;
+use quantities::NewTime;
 use quantities::TimeSpan;
 use read::narrow;
 use read::network_at;
@@ -209,7 +209,7 @@ fn told(text: &[u8], at: usize, st: Simulation) {
 
 fn later(text: &[u8], at: usize) {
     let span = TimeSpan(read::double(text, at, 1));
-    match components::new_time::new_time(read::moment(text, at, 0), span) {
+    match quantities::new_time::new_time(read::moment(text, at, 0), span) {
         NewTime::At(t) => done(moment(put(printed(), b"time "), t)),
         NewTime::Refused => done(put(printed(), b"time -")),
     }

@@ -4,13 +4,9 @@ use crate::sink::Sink;
 use crate::sink::decimal;
 use crate::sink::double;
 use crate::sink::put;
-use components::LossySender;
-use components::Packet;
-use components::Queued;
-use components::Ring;
-use components::SenderState;
-use components::Toggler;
-use components::Transit;
+use link::Packet;
+use link::Ring;
+use link::Transit;
 use meters::AverageFlowMeter;
 use meters::FlowProperties;
 use meters::FlowRead;
@@ -23,7 +19,11 @@ use remy::Name;
 use remy::Next;
 use remy::Simulation;
 use remy::TickRecord;
+use sender::LossySender;
+use sender::SenderState;
 use simulation::SenderFlow;
+use toggler::Queued;
+use toggler::Toggler;
 
 pub(crate) fn record(out: Sink, note: TickRecord) -> Sink {
     let a = moment(put(out, b"time="), note.time);

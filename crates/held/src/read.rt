@@ -1,7 +1,6 @@
 // What the fields of a line give: a field that is not there reads as 0.
 ghost use Prim.Native.Nat.{_<_};
-use components::Limit;
-use components::Policy;
+use link::Limit;
 use quantities::OptionTime;
 use quantities::Time;
 use quantities::TimeSpan;
@@ -10,6 +9,7 @@ use rand::ContinuousDistribution;
 use remy::RemyNetwork;
 use script::absent;
 use script::number;
+use sender::Policy;
 
 // The network of the fields 0 to 15: delay, rate, loss, limit, bits, senders; on and off, each a kind
 // and two doubles; the policy's kind, two numbers and the gap.

@@ -1,13 +1,9 @@
 // A digest of every field of a simulation, with every slot of its rings and every sender, toggler,
 // meter and place of the queue, whether in use or not.
 use crate::sink::step;
-use components::Limit;
-use components::Line;
-use components::LossySender;
-use components::Packet;
-use components::Policy;
-use components::SenderState;
-use components::Toggler;
+use link::Limit;
+use link::Line;
+use link::Packet;
 use meters::AverageFlowMeter;
 use quantities::OptionTime;
 use quantities::Time;
@@ -18,6 +14,10 @@ use remy::Head;
 use remy::Next;
 use remy::RemyNetwork;
 use remy::Simulation;
+use sender::LossySender;
+use sender::Policy;
+use sender::SenderState;
+use toggler::Toggler;
 
 pub(crate) fn digest(st: Simulation) -> u64 {
     let network = st.network;

@@ -19,19 +19,19 @@ use Rattle.rand.specs.Generator.{fromWords, outputOf, movedOn}
 use Rattle.rand.specs.Draws.{sampleOf, unitOf, uniformOf, drawOf, redraw}
 use Rattle.rand.proofs.Redraw.{again}
 use Rattle.meters.specs.Meter.{newMeter, startFit, meterFit, ready, switchedOf, enabledTime, readOf}
-use Rattle.components.specs.declared.packet.Packet.{Packet}
-use Rattle.components.specs.declared.packet.Transit.{Transit}
-use Rattle.components.specs.declared.link.Limit.the-variants as Limit
-use Rattle.components.specs.declared.link.Line.{Line}
-use Rattle.components.specs.declared.link.Left.the-variants as Left
-use Rattle.components.specs.declared.lossy.Policy.{Policy}
-use Rattle.components.specs.declared.lossy.Enabled.{Enabled}
-use Rattle.components.specs.declared.lossy.SenderState.the-variants as State
-use Rattle.components.specs.declared.lossy.LossySender.{LossySender}
-use Rattle.components.specs.declared.lossy.Heard.the-variants.{Counted}
-use Rattle.components.specs.Link.{admits, admitted, receiveOf, isDue, tryDeliver}
-use Rattle.components.specs.Sender.{returnedOf}
-use Rattle.components.specs.Queue.{sooner, pickOf}
+use Rattle.link.specs.declared.packet.Packet.{Packet}
+use Rattle.link.specs.declared.packet.Transit.{Transit}
+use Rattle.link.specs.declared.link.Limit.the-variants as Limit
+use Rattle.link.specs.declared.link.Line.{Line}
+use Rattle.link.specs.declared.link.Left.the-variants as Left
+use Rattle.sender.specs.declared.lossy.Policy.{Policy}
+use Rattle.sender.specs.declared.lossy.Enabled.{Enabled}
+use Rattle.sender.specs.declared.lossy.SenderState.the-variants as State
+use Rattle.sender.specs.declared.lossy.LossySender.{LossySender}
+use Rattle.sender.specs.declared.lossy.Heard.the-variants.{Counted}
+use Rattle.link.specs.Link.{admits, admitted, receiveOf, isDue, tryDeliver}
+use Rattle.sender.specs.Sender.{returnedOf}
+use Rattle.toggler.specs.Queue.{sooner, pickOf}
 use Rattle.points.specs.Points.{Hold, points, outputs, halfway, smallest, one, atOne, first, silent, dropped}
 use Rattle.points.proofs.Claims.{_and_}
 

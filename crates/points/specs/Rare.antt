@@ -8,17 +8,17 @@ use Rattle.quantities.specs.declared.time.OptionTime.{OptionTime}
 use Rattle.quantities.specs.declared.time.OptionTime.the-variants.{None, Some}
 use Rattle.rand.specs.declared.distribution.ContinuousDistribution.the-variants.{Always}
 use Rattle.rand.specs.Generator.{fromWords}
-use Rattle.components.specs.declared.packet.Packet.{Packet}
-use Rattle.components.specs.declared.link.Limit.the-variants as Limit
-use Rattle.components.specs.declared.lossy.Policy.{Policy}
-use Rattle.components.specs.declared.lossy.Policy.the-variants.{Held, Grown, Timed}
-use Rattle.components.specs.declared.lossy.Enabled.{Enabled}
-use Rattle.components.specs.declared.lossy.SenderState.the-variants as State
-use Rattle.components.specs.declared.lossy.LossySender.{LossySender}
-use Rattle.components.specs.declared.lossy.TimerTicked.{TimerTicked}
-use Rattle.components.specs.declared.lossy.Returned.{Returned}
-use Rattle.components.specs.declared.lossy.Heard.the-variants.{Counted}
-use Rattle.components.specs.Sender.{tickTimer, tickSend, returnedOf}
+use Rattle.link.specs.declared.packet.Packet.{Packet}
+use Rattle.link.specs.declared.link.Limit.the-variants as Limit
+use Rattle.sender.specs.declared.lossy.Policy.{Policy}
+use Rattle.sender.specs.declared.lossy.Policy.the-variants.{Held, Grown, Timed}
+use Rattle.sender.specs.declared.lossy.Enabled.{Enabled}
+use Rattle.sender.specs.declared.lossy.SenderState.the-variants as State
+use Rattle.sender.specs.declared.lossy.LossySender.{LossySender}
+use Rattle.sender.specs.declared.lossy.TimerTicked.{TimerTicked}
+use Rattle.sender.specs.declared.lossy.Returned.{Returned}
+use Rattle.sender.specs.declared.lossy.Heard.the-variants.{Counted}
+use Rattle.sender.specs.Sender.{tickTimer, tickSend, returnedOf}
 use Rattle.remy.specs.Build.{emptyNetwork, emptySimulation, buildOf}
 use Rattle.points.specs.Points.{one}
 use Rattle.points.specs.Ranges.{double}

@@ -15,11 +15,11 @@ use Rattle.quantities.specs.Units.{after as spanAfter}
 use Rattle.rand.specs.declared.distribution.ContinuousDistribution.the-variants.{Always}
 use Rattle.rand.specs.Generator.{fromWords}
 use Rattle.meters.specs.Meter.{newMeter}
-use Rattle.components.specs.declared.link.Limit.{Limit}
-use Rattle.components.specs.declared.link.Limit.the-variants as Limit
-use Rattle.components.specs.declared.lossy.Policy.the-variants.{Held}
-use Rattle.components.specs.declared.lossy.SenderState.the-variants as State
-use Rattle.components.specs.Queue.{noQueued}
+use Rattle.link.specs.declared.link.Limit.{Limit}
+use Rattle.link.specs.declared.link.Limit.the-variants as Limit
+use Rattle.sender.specs.declared.lossy.Policy.the-variants.{Held}
+use Rattle.sender.specs.declared.lossy.SenderState.the-variants as State
+use Rattle.toggler.specs.Queue.{noQueued}
 use Rattle.remy.specs.declared.network.RemyNetwork.{RemyNetwork}
 use Rattle.remy.specs.declared.simulation.Mark.{Mark}
 use Rattle.remy.specs.declared.simulation.Mark.the-variants as Mark

@@ -11,8 +11,8 @@ use Rattle.quantities.specs.Units.{timeOf, spanOf, rateOf}
 use Rattle.rand.specs.declared.distribution.ContinuousDistribution.the-variants.{Always}
 use Rattle.meters.specs.declared.flow.Rtt.the-variants.{Known}
 use Rattle.meters.specs.Meter.{readOf}
-use Rattle.components.specs.declared.link.Limit.the-variants as Limit
-use Rattle.components.specs.declared.lossy.Policy.the-variants.{Held}
+use Rattle.link.specs.declared.link.Limit.the-variants as Limit
+use Rattle.sender.specs.declared.lossy.Policy.the-variants.{Held}
 use Rattle.remy.specs.declared.network.RemyNetwork.{RemyNetwork}
 use Rattle.remy.specs.declared.simulation.Simulation.{Simulation}
 use Rattle.remy.specs.declared.simulation.Mark.{Mark}

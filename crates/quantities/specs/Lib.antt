@@ -1,3 +1,4 @@
 -- The definitions that the contracts cite.
 pub mod Doubles
 pub mod Units
+pub mod NewTime

@@ -25,16 +25,16 @@ use Rattle.rand.specs.declared.distribution.ContinuousDistribution.the-variants
 use Rattle.rand.specs.Generator.{outputOf, fromSeed, childOf}
 use Rattle.rand.specs.Draws.{sampleOf, unitOf, uniformOf, drawOf, PositiveDraw, redraw, positiveOf}
 use Rattle.meters.specs.Meter.{newMeter, isOn}
-use Rattle.components.proofs.Least.{picked-there, picked-inside, picked-le, picked-nothing}
-use Rattle.components.specs.declared.lossy.LossySender.{LossySender}
-use Rattle.components.specs.declared.toggler.Toggler.{Toggler}
-use Rattle.components.specs.declared.toggler.Toggled.{Toggled}
-use Rattle.components.specs.declared.tick_queue.Queued.{Queued}
-use Rattle.components.specs.declared.tick_queue.Picked.{Picked}
-use Rattle.components.specs.Link.{nextTransmit, nextDeliver, nextTick}
-use Rattle.components.specs.Sender.{senderNext}
-use Rattle.components.specs.Toggler.{newToggler}
-use Rattle.components.specs.Queue.{queuePlaces, noQueued, pickOf}
+use Rattle.toggler.proofs.Least.{picked-there, picked-inside, picked-le, picked-nothing}
+use Rattle.sender.specs.declared.lossy.LossySender.{LossySender}
+use Rattle.toggler.specs.declared.toggler.Toggler.{Toggler}
+use Rattle.toggler.specs.declared.toggler.Toggled.{Toggled}
+use Rattle.toggler.specs.declared.tick_queue.Queued.{Queued}
+use Rattle.toggler.specs.declared.tick_queue.Picked.{Picked}
+use Rattle.link.specs.Link.{nextTransmit, nextDeliver, nextTick}
+use Rattle.sender.specs.Sender.{senderNext}
+use Rattle.toggler.specs.Toggler.{newToggler}
+use Rattle.toggler.specs.Queue.{queuePlaces, noQueued, pickOf}
 use Rattle.remy.specs.declared.network.RemyNetwork.{RemyNetwork}
 use Rattle.remy.specs.declared.simulation.Head.{Head}
 use Rattle.remy.specs.declared.simulation.Simulation.{Simulation}

@@ -13,9 +13,9 @@ use Rattle.quantities.specs.declared.time.OptionTime.the-variants.{Some}
 use Rattle.quantities.specs.Doubles.{zeroF, power, inRange}
 use Rattle.quantities.proofs.Order.{le-known-r, not-lt→le}
 use Rattle.meters.specs.Meter.{totalFit, sumFit}
-use Rattle.components.specs.declared.packet.Packet.{Packet}
-use Rattle.components.specs.Ring.{items, popped}
-use Rattle.components.proofs.Items.{Sound, items-pop}
+use Rattle.link.specs.declared.packet.Packet.{Packet}
+use Rattle.link.specs.Ring.{items, popped}
+use Rattle.link.proofs.Items.{Sound, items-pop}
 use Rattle.remy.specs.declared.simulation.Simulation.{Simulation}
 use Rattle.remy.specs.Network.{between, networkStop}
 use Rattle.remy.specs.State.{noPacket, noTransit, senderAt, meterAt, firstOf, frontOf, waitingItems, onLinePackets}

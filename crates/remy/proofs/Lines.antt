@@ -14,14 +14,14 @@ use Rattle.quantities.specs.declared.time.Time.{Time}
 use Rattle.quantities.specs.declared.time_span.TimeSpan.{TimeSpan}
 use Rattle.quantities.specs.Units.{amountOf}
 use Rattle.quantities.specs.Units.{after as spanAfter}
-use Rattle.components.specs.declared.packet.Packet.{Packet}
-use Rattle.components.specs.declared.packet.Transit.{Transit}
-use Rattle.components.specs.declared.ring.Ring.{Ring}
-use Rattle.components.specs.declared.link.Limit.{Limit}
-use Rattle.components.specs.declared.link.Limit.the-variants as Limit
-use Rattle.components.specs.Ring.{places, placeAfter, pushed, popped, items}
-use Rattle.components.specs.Link.{admits}
-use Rattle.components.proofs.Items.{Sound, items-push, items-pop, push-sound, pop-sound}
+use Rattle.link.specs.declared.packet.Packet.{Packet}
+use Rattle.link.specs.declared.packet.Transit.{Transit}
+use Rattle.link.specs.declared.ring.Ring.{Ring}
+use Rattle.link.specs.declared.link.Limit.{Limit}
+use Rattle.link.specs.declared.link.Limit.the-variants as Limit
+use Rattle.link.specs.Ring.{places, placeAfter, pushed, popped, items}
+use Rattle.link.specs.Link.{admits}
+use Rattle.link.proofs.Items.{Sound, items-push, items-pop, push-sound, pop-sound}
 use Rattle.remy.specs.State.{noPacket, noTransit, totalBits}
 use Rattle.remy.specs.History.{PacketId, idOf, Entry, ids, times}
 use Rattle.remy.specs.Account.{Spaced, Limited, LineAccount}

@@ -7,7 +7,7 @@ use native.Mathlib.Nat.{zero-add, add-assoc}
 use native.Mathlib.Omega.{arith}
 use lib.ListN.{length, take}
 use Rattle.quantities.specs.declared.time.Time.{Time}
-use Rattle.components.specs.declared.packet.Packet.{Packet}
+use Rattle.link.specs.declared.packet.Packet.{Packet}
 use Rattle.remy.specs.declared.simulation.Mark.{Mark}
 use Rattle.remy.specs.declared.simulation.Name.{Name}
 use Rattle.remy.specs.declared.simulation.Name.the-variants as Name

@@ -13,27 +13,27 @@ use lib.Ieee.{lt}
 use Rattle.quantities.specs.declared.time.Time.{Time}
 use Rattle.quantities.specs.Units.{spanOf, rateOf, amountOverRate}
 use Rattle.rand.specs.Draws.{unitOf}
-use Rattle.components.specs.declared.packet.Packet.{Packet}
-use Rattle.components.specs.declared.link.Line.{Line}
-use Rattle.components.specs.declared.link.Left.{Left}
-use Rattle.components.specs.declared.link.Left.the-variants as Left
-use Rattle.components.specs.declared.link.Delivered.{Delivered}
-use Rattle.components.specs.declared.link.Transmitted.{Transmitted}
-use Rattle.components.specs.declared.lossy.Enabled.{Enabled}
-use Rattle.components.specs.declared.lossy.SenderState.{SenderState}
-use Rattle.components.specs.declared.lossy.SenderState.the-variants as State
-use Rattle.components.specs.declared.lossy.Sent.{Sent}
-use Rattle.components.specs.declared.lossy.TimerTicked.{TimerTicked}
-use Rattle.components.specs.declared.lossy.Heard.{Heard}
-use Rattle.components.specs.declared.lossy.Heard.the-variants as Heard
-use Rattle.components.specs.declared.toggler.Toggled.{Toggled}
-use Rattle.components.specs.Ring.{places}
-use Rattle.components.specs.NewTime.{newTime}
-use Rattle.components.specs.Link.{isDue, departed, receiveOf, tryDeliver, isFree, notStarted, startWith, tryTransmit}
-use Rattle.components.specs.Sender.{timerDue, tickTimer, tickSend, timerSent, returnedOf}
-use Rattle.components.specs.Sender.{sendWith as sentWith}
-use Rattle.components.specs.Toggler.{toggleOf}
-use Rattle.components.proofs.Limits.{due-count, free-count}
+use Rattle.link.specs.declared.packet.Packet.{Packet}
+use Rattle.link.specs.declared.link.Line.{Line}
+use Rattle.link.specs.declared.link.Left.{Left}
+use Rattle.link.specs.declared.link.Left.the-variants as Left
+use Rattle.link.specs.declared.link.Delivered.{Delivered}
+use Rattle.link.specs.declared.link.Transmitted.{Transmitted}
+use Rattle.sender.specs.declared.lossy.Enabled.{Enabled}
+use Rattle.sender.specs.declared.lossy.SenderState.{SenderState}
+use Rattle.sender.specs.declared.lossy.SenderState.the-variants as State
+use Rattle.sender.specs.declared.lossy.Sent.{Sent}
+use Rattle.sender.specs.declared.lossy.TimerTicked.{TimerTicked}
+use Rattle.sender.specs.declared.lossy.Heard.{Heard}
+use Rattle.sender.specs.declared.lossy.Heard.the-variants as Heard
+use Rattle.toggler.specs.declared.toggler.Toggled.{Toggled}
+use Rattle.link.specs.Ring.{places}
+use Rattle.quantities.specs.NewTime.{newTime}
+use Rattle.link.specs.Link.{isDue, departed, receiveOf, tryDeliver, isFree, notStarted, startWith, tryTransmit}
+use Rattle.sender.specs.Sender.{timerDue, tickTimer, tickSend, timerSent, returnedOf}
+use Rattle.sender.specs.Sender.{sendWith as sentWith}
+use Rattle.toggler.specs.Toggler.{toggleOf}
+use Rattle.link.proofs.Limits.{due-count, free-count}
 use Rattle.remy.specs.declared.network.RemyNetwork.{RemyNetwork}
 use Rattle.remy.specs.declared.simulation.Simulation.{Simulation}
 use Rattle.remy.specs.declared.simulation.Mark.{Mark}

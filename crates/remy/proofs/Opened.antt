@@ -6,11 +6,11 @@ use Rattle.rand.specs.Generator.{fromWords, outputOf, movedOn, fromSeed, childO
 use Rattle.rand.specs.Draws.{sampleOf, unitOf, uniformOf, drawOf, redraw}
 use Rattle.meters.specs.Sums.{summedOf, averageRtt}
 use Rattle.meters.specs.Meter.{startFit, meterFit, ready, switchedOf, recordedOf, enabledTime, readOf}
-use Rattle.components.specs.NewTime.{newTime}
-use Rattle.components.specs.Link as Link
-use Rattle.components.specs.Sender as Sender
-use Rattle.components.specs.Toggler.{newToggler, toggleOf}
-use Rattle.components.specs.Queue.{sooner, pickOf}
+use Rattle.quantities.specs.NewTime.{newTime}
+use Rattle.link.specs.Link as Link
+use Rattle.sender.specs.Sender as Sender
+use Rattle.toggler.specs.Toggler.{newToggler, toggleOf}
+use Rattle.toggler.specs.Queue.{sooner, pickOf}
 use Rattle.remy.specs.Network.{networkStop}
 use Rattle.remy.specs.State.{roleOf}
 use Rattle.remy.specs.Queue.{ownTime, requeue, picked}

@@ -15,24 +15,24 @@ use Rattle.quantities.specs.Units.{after as spanAfter}
 use Rattle.rand.specs.Draws.{unitOf}
 use Rattle.meters.specs.declared.meter.Metered.{Metered}
 use Rattle.meters.specs.Meter.{recordedOf}
-use Rattle.components.specs.declared.packet.Packet.{Packet}
-use Rattle.components.specs.declared.packet.Transit.{Transit}
-use Rattle.components.specs.declared.link.Line.{Line}
-use Rattle.components.specs.declared.link.Left.{Left}
-use Rattle.components.specs.declared.link.Left.the-variants as Left
-use Rattle.components.specs.declared.link.Begun.the-variants as Begun
-use Rattle.components.specs.declared.link.Delivered.{Delivered}
-use Rattle.components.specs.declared.link.Transmitted.{Transmitted}
-use Rattle.components.specs.declared.lossy.Enabled.{Enabled}
-use Rattle.components.specs.declared.lossy.SenderState.{SenderState}
-use Rattle.components.specs.declared.lossy.SenderState.the-variants as State
-use Rattle.components.specs.declared.lossy.Heard.the-variants as Heard
-use Rattle.components.specs.declared.lossy.Returned.{Returned}
-use Rattle.components.specs.Ring.{places, placeAfter}
-use Rattle.components.specs.NewTime.{newTime}
-use Rattle.components.specs.Link.{isDue, departed, tryDeliver, isFree, startedLine, notStarted, startWith, tryTransmit}
-use Rattle.components.specs.Sender.{withState, acked, returnTo, returnedOf}
-use Rattle.components.proofs.Limits.{due-count}
+use Rattle.link.specs.declared.packet.Packet.{Packet}
+use Rattle.link.specs.declared.packet.Transit.{Transit}
+use Rattle.link.specs.declared.link.Line.{Line}
+use Rattle.link.specs.declared.link.Left.{Left}
+use Rattle.link.specs.declared.link.Left.the-variants as Left
+use Rattle.link.specs.declared.link.Begun.the-variants as Begun
+use Rattle.link.specs.declared.link.Delivered.{Delivered}
+use Rattle.link.specs.declared.link.Transmitted.{Transmitted}
+use Rattle.sender.specs.declared.lossy.Enabled.{Enabled}
+use Rattle.sender.specs.declared.lossy.SenderState.{SenderState}
+use Rattle.sender.specs.declared.lossy.SenderState.the-variants as State
+use Rattle.sender.specs.declared.lossy.Heard.the-variants as Heard
+use Rattle.sender.specs.declared.lossy.Returned.{Returned}
+use Rattle.link.specs.Ring.{places, placeAfter}
+use Rattle.quantities.specs.NewTime.{newTime}
+use Rattle.link.specs.Link.{isDue, departed, tryDeliver, isFree, startedLine, notStarted, startWith, tryTransmit}
+use Rattle.sender.specs.Sender.{withState, acked, returnTo, returnedOf}
+use Rattle.link.proofs.Limits.{due-count}
 use Rattle.remy.specs.declared.network.RemyNetwork.{RemyNetwork}
 use Rattle.remy.specs.declared.simulation.Simulation.{Simulation}
 use Rattle.remy.specs.declared.simulation.Mark.the-variants as Mark

@@ -24,16 +24,16 @@ use Rattle.rand.specs.Draws.{drawOf, redraw}
 use Rattle.meters.specs.declared.meter.AverageFlowMeter.{AverageFlowMeter}
 use Rattle.meters.specs.declared.meter.Metered.{Metered}
 use Rattle.meters.specs.Meter.{ready, isOn, taken, unchanged, turned, switchedOf}
-use Rattle.components.specs.declared.packet.Packet.{Packet}
-use Rattle.components.specs.declared.lossy.Policy.{Policy}
-use Rattle.components.specs.declared.lossy.Policy.the-variants.{Held, Grown, Timed}
-use Rattle.components.specs.declared.lossy.Enabled.{Enabled}
-use Rattle.components.specs.declared.lossy.TimerSet.{TimerSet}
-use Rattle.components.specs.Ring.{places, placeAfter}
-use Rattle.components.specs.NewTime.{timeFine, newTime}
-use Rattle.components.specs.Link.{admits, admitted, isDue, departed, isFree, startedLine}
-use Rattle.components.specs.Sender.{timerIn, timerSent, tickTimer}
-use Rattle.components.proofs.Limits.{due-count, free-count}
+use Rattle.link.specs.declared.packet.Packet.{Packet}
+use Rattle.sender.specs.declared.lossy.Policy.{Policy}
+use Rattle.sender.specs.declared.lossy.Policy.the-variants.{Held, Grown, Timed}
+use Rattle.sender.specs.declared.lossy.Enabled.{Enabled}
+use Rattle.sender.specs.declared.lossy.TimerSet.{TimerSet}
+use Rattle.link.specs.Ring.{places, placeAfter}
+use Rattle.quantities.specs.NewTime.{timeFine, newTime}
+use Rattle.link.specs.Link.{admits, admitted, isDue, departed, isFree, startedLine}
+use Rattle.sender.specs.Sender.{timerIn, timerSent, tickTimer}
+use Rattle.link.proofs.Limits.{due-count, free-count}
 use Rattle.remy.specs.declared.network.RemyNetwork.{RemyNetwork}
 use Rattle.remy.specs.declared.simulation.Simulation.{Simulation}
 use Rattle.remy.specs.Network.{windowFit, gapFit, policyFit}

@@ -5,7 +5,7 @@ use Prim.Native.Nat.{ℕ, _-_, _/_, _%_, _≤_, _<_}
 use native.Mathlib.Omega.{arith}
 use borrow.Author.Tests.{lt-ltb, eq-eqb, ne-eqb, ltb-true, eqb-true, eqb-false}
 use lib.Dec.{ltb, eqb}
-use Rattle.components.specs.Queue.{queuePlaces}
+use Rattle.toggler.specs.Queue.{queuePlaces}
 use Rattle.remy.specs.State.{Role, link, sender, toggler, nobody, senderPart, togglerPart, roleOf}
 use Rattle.remy.specs.Queue.{partOf}
 use Rattle.remy.proofs.Steps.{cond-elim}

@@ -19,13 +19,13 @@ use Rattle.rand.specs.declared.distribution.ContinuousDistribution.{ContinuousD
 use Rattle.rand.specs.Generator.{fromSeed, childOf}
 use Rattle.rand.specs.Draws.{positiveOf}
 use Rattle.meters.specs.Meter.{newMeter}
-use Rattle.components.specs.declared.link.Limit.{Limit}
-use Rattle.components.specs.declared.link.Limit.the-variants as Limit
-use Rattle.components.specs.declared.lossy.LossySender.{LossySender}
-use Rattle.components.specs.declared.toggler.Toggler.{Toggler}
-use Rattle.components.specs.declared.toggler.Toggled.{Toggled}
-use Rattle.components.specs.Queue.{queuePlaces, noQueued}
-use Rattle.components.specs.Toggler.{newToggler}
+use Rattle.link.specs.declared.link.Limit.{Limit}
+use Rattle.link.specs.declared.link.Limit.the-variants as Limit
+use Rattle.sender.specs.declared.lossy.LossySender.{LossySender}
+use Rattle.toggler.specs.declared.toggler.Toggler.{Toggler}
+use Rattle.toggler.specs.declared.toggler.Toggled.{Toggled}
+use Rattle.toggler.specs.Queue.{queuePlaces, noQueued}
+use Rattle.toggler.specs.Toggler.{newToggler}
 use Rattle.remy.specs.declared.network.RemyNetwork.{RemyNetwork}
 use Rattle.remy.specs.declared.simulation.Simulation.{Simulation}
 use Rattle.remy.specs.declared.simulation.Built.{Built}

@@ -9,14 +9,14 @@ use Rattle.quantities.specs.declared.time.Time.{Time}
 use Rattle.quantities.specs.declared.time.OptionTime.{OptionTime}
 use Rattle.quantities.specs.declared.time.OptionTime.the-variants.{None, Some}
 use Rattle.quantities.specs.Units.{latestOf}
-use Rattle.components.specs.declared.link.Line.{Line}
-use Rattle.components.specs.declared.lossy.SenderState.{SenderState}
-use Rattle.components.specs.declared.lossy.SenderState.the-variants as State
-use Rattle.components.specs.declared.tick_queue.Picked.{Picked}
-use Rattle.components.specs.Link.{nextTransmit, nextDeliver, nextTick}
-use Rattle.components.specs.Sender.{maySend, nextSend, stateNext, senderNext}
-use Rattle.components.specs.Queue.{noQueued, pickOf}
-use Rattle.components.proofs.Least.{picked-there}
+use Rattle.link.specs.declared.link.Line.{Line}
+use Rattle.sender.specs.declared.lossy.SenderState.{SenderState}
+use Rattle.sender.specs.declared.lossy.SenderState.the-variants as State
+use Rattle.toggler.specs.declared.tick_queue.Picked.{Picked}
+use Rattle.link.specs.Link.{nextTransmit, nextDeliver, nextTick}
+use Rattle.sender.specs.Sender.{maySend, nextSend, stateNext, senderNext}
+use Rattle.toggler.specs.Queue.{noQueued, pickOf}
+use Rattle.toggler.proofs.Least.{picked-there}
 use Rattle.remy.specs.declared.network.RemyNetwork.{RemyNetwork}
 use Rattle.remy.specs.declared.simulation.Simulation.{Simulation}
 use Rattle.remy.specs.State.{Role, link, sender, toggler, nobody, senderAt, frontOf, withHead, withQueue}

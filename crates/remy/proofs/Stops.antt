@@ -8,9 +8,9 @@ use lib.Ieee.{Float, fin}
 use Rattle.quantities.specs.declared.time.OptionTime.the-variants.{None, Some}
 use Rattle.quantities.specs.Doubles.{power, least}
 use Rattle.quantities.specs.Units.{timeOf, amountOf}
-use Rattle.components.specs.declared.packet.Packet.{Packet}
-use Rattle.components.specs.declared.link.Limit.the-variants as Limit
-use Rattle.components.specs.declared.lossy.SenderState.the-variants as State
+use Rattle.link.specs.declared.packet.Packet.{Packet}
+use Rattle.link.specs.declared.link.Limit.the-variants as Limit
+use Rattle.sender.specs.declared.lossy.SenderState.the-variants as State
 use Rattle.remy.specs.declared.simulation.Next.the-variants as Next
 use Rattle.remy.specs.declared.simulation.Simulation.{Simulation}
 use Rattle.remy.specs.State.{senderAt, togglerAt, withHead, withLine, withWaiting, withOnLine, withSender, withToggler, withQueued}

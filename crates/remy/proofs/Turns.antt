@@ -11,20 +11,20 @@ use Rattle.quantities.specs.Doubles.{zeroF, power}
 use Rattle.quantities.specs.Units.{spanOf}
 use Rattle.quantities.proofs.Order.{lt→le}
 use Rattle.rand.specs.Draws.{positiveOf}
-use Rattle.components.specs.declared.packet.Packet.{Packet}
-use Rattle.components.specs.declared.link.Arrival.{Arrival}
-use Rattle.components.specs.declared.lossy.Enabled.{Enabled}
-use Rattle.components.specs.declared.lossy.SenderState.{SenderState}
-use Rattle.components.specs.declared.lossy.SenderState.the-variants as State
-use Rattle.components.specs.declared.lossy.Sent.{Sent}
-use Rattle.components.specs.declared.toggler.Toggler.{Toggler}
-use Rattle.components.specs.declared.toggler.Toggled.{Toggled}
-use Rattle.components.specs.Ring.{places}
-use Rattle.components.specs.NewTime.{newTime}
-use Rattle.components.specs.Link.{admits, admitted, receiveOf}
-use Rattle.components.specs.Sender.{windowSent, timerSent, timerDue, tickTimer, notSent, tickSend, enabledOf, disabledOf}
-use Rattle.components.specs.Sender.{sendWith as sentWith}
-use Rattle.components.specs.Toggler.{toggleOf}
+use Rattle.link.specs.declared.packet.Packet.{Packet}
+use Rattle.link.specs.declared.link.Arrival.{Arrival}
+use Rattle.sender.specs.declared.lossy.Enabled.{Enabled}
+use Rattle.sender.specs.declared.lossy.SenderState.{SenderState}
+use Rattle.sender.specs.declared.lossy.SenderState.the-variants as State
+use Rattle.sender.specs.declared.lossy.Sent.{Sent}
+use Rattle.toggler.specs.declared.toggler.Toggler.{Toggler}
+use Rattle.toggler.specs.declared.toggler.Toggled.{Toggled}
+use Rattle.link.specs.Ring.{places}
+use Rattle.quantities.specs.NewTime.{newTime}
+use Rattle.link.specs.Link.{admits, admitted, receiveOf}
+use Rattle.sender.specs.Sender.{windowSent, timerSent, timerDue, tickTimer, notSent, tickSend, enabledOf, disabledOf}
+use Rattle.sender.specs.Sender.{sendWith as sentWith}
+use Rattle.toggler.specs.Toggler.{toggleOf}
 use Rattle.remy.specs.declared.simulation.Simulation.{Simulation}
 use Rattle.remy.specs.declared.simulation.Mark.the-variants as Mark
 use Rattle.remy.specs.declared.simulation.Name.the-variants as Name

@@ -10,10 +10,10 @@ use lib.Ieee.{le}
 use Rattle.quantities.specs.declared.time_span.TimeSpan.{TimeSpan}
 use Rattle.quantities.specs.Units.{spanOf, rateOf, amountOverRate}
 use Rattle.quantities.specs.Units.{after as spanAfter}
-use Rattle.components.specs.declared.packet.Packet.{Packet}
-use Rattle.components.specs.declared.packet.Transit.{Transit}
-use Rattle.components.specs.declared.link.Limit.{Limit}
-use Rattle.components.specs.declared.link.Limit.the-variants as Limit
+use Rattle.link.specs.declared.packet.Packet.{Packet}
+use Rattle.link.specs.declared.packet.Transit.{Transit}
+use Rattle.link.specs.declared.link.Limit.{Limit}
+use Rattle.link.specs.declared.link.Limit.the-variants as Limit
 use Rattle.remy.specs.declared.network.RemyNetwork.{RemyNetwork}
 use Rattle.remy.specs.declared.simulation.Simulation.{Simulation}
 use Rattle.remy.specs.declared.simulation.TickRecord.{TickRecord}

@@ -7,10 +7,10 @@ use lib.Ieee.{Float, fin, lt, le}
 use Rattle.quantities.specs.Doubles.{zeroF, power, inRange}
 use Rattle.rand.specs.declared.distribution.ContinuousDistribution.{ContinuousDistribution}
 use Rattle.rand.specs.declared.distribution.ContinuousDistribution.the-variants.{Always, Uniform}
-use Rattle.components.specs.declared.link.Limit.{Limit}
-use Rattle.components.specs.declared.link.Limit.the-variants as Limit
-use Rattle.components.specs.declared.lossy.Policy.{Policy}
-use Rattle.components.specs.declared.lossy.Policy.the-variants.{Held, Grown, Timed}
+use Rattle.link.specs.declared.link.Limit.{Limit}
+use Rattle.link.specs.declared.link.Limit.the-variants as Limit
+use Rattle.sender.specs.declared.lossy.Policy.{Policy}
+use Rattle.sender.specs.declared.lossy.Policy.the-variants.{Held, Grown, Timed}
 use Rattle.remy.specs.declared.network.RemyNetwork.{RemyNetwork}
 
 -- a whole number in lo..hi

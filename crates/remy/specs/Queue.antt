@@ -7,11 +7,11 @@ use Rattle.quantities.specs.declared.time.OptionTime.{OptionTime}
 use Rattle.quantities.specs.declared.time.OptionTime.the-variants.{None, Some}
 use Rattle.quantities.specs.Doubles.{largest}
 use Rattle.quantities.specs.Units.{timeOf}
-use Rattle.components.specs.declared.tick_queue.Queued.{Queued}
-use Rattle.components.specs.declared.tick_queue.Picked.{Picked}
-use Rattle.components.specs.Link.{nextTick}
-use Rattle.components.specs.Sender.{senderNext}
-use Rattle.components.specs.Queue.{noQueued, pickOf}
+use Rattle.toggler.specs.declared.tick_queue.Queued.{Queued}
+use Rattle.toggler.specs.declared.tick_queue.Picked.{Picked}
+use Rattle.link.specs.Link.{nextTick}
+use Rattle.sender.specs.Sender.{senderNext}
+use Rattle.toggler.specs.Queue.{noQueued, pickOf}
 use Rattle.remy.specs.declared.simulation.Next.{Next}
 use Rattle.remy.specs.declared.simulation.Next.the-variants as Next
 use Rattle.remy.specs.declared.simulation.Head.{Head}

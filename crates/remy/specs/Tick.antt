@@ -8,28 +8,28 @@ use lib.Ieee.{lt}
 use Rattle.quantities.specs.Doubles.{zeroF, power}
 use Rattle.quantities.specs.Units.{spanOf, timeOf, rateOf, since}
 use Rattle.meters.specs.Meter.{switchedOf, recordedOf}
-use Rattle.components.specs.declared.packet.Packet.{Packet}
-use Rattle.components.specs.declared.link.Arrival.{Arrival}
-use Rattle.components.specs.declared.link.Left.{Left}
-use Rattle.components.specs.declared.link.Left.the-variants as Left
-use Rattle.components.specs.declared.link.Begun.{Begun}
-use Rattle.components.specs.declared.link.Begun.the-variants as Begun
-use Rattle.components.specs.declared.link.Delivered.{Delivered}
-use Rattle.components.specs.declared.link.Transmitted.{Transmitted}
-use Rattle.components.specs.declared.lossy.Enabled.{Enabled}
-use Rattle.components.specs.declared.lossy.SenderState.{SenderState}
-use Rattle.components.specs.declared.lossy.SenderState.the-variants as State
-use Rattle.components.specs.declared.lossy.LossySender.{LossySender}
-use Rattle.components.specs.declared.lossy.TimerTicked.{TimerTicked}
-use Rattle.components.specs.declared.lossy.Sent.{Sent}
-use Rattle.components.specs.declared.lossy.Heard.{Heard}
-use Rattle.components.specs.declared.lossy.Heard.the-variants as Heard
-use Rattle.components.specs.declared.lossy.Returned.{Returned}
-use Rattle.components.specs.declared.toggler.Toggled.{Toggled}
-use Rattle.components.specs.Ring.{placeAfter}
-use Rattle.components.specs.Link.{receiveOf, tryDeliver, tryTransmit}
-use Rattle.components.specs.Sender.{timerDue, tickTimer, tickSend, enabledOf, disabledOf, returnedOf}
-use Rattle.components.specs.Toggler.{toggleOf}
+use Rattle.link.specs.declared.packet.Packet.{Packet}
+use Rattle.link.specs.declared.link.Arrival.{Arrival}
+use Rattle.link.specs.declared.link.Left.{Left}
+use Rattle.link.specs.declared.link.Left.the-variants as Left
+use Rattle.link.specs.declared.link.Begun.{Begun}
+use Rattle.link.specs.declared.link.Begun.the-variants as Begun
+use Rattle.link.specs.declared.link.Delivered.{Delivered}
+use Rattle.link.specs.declared.link.Transmitted.{Transmitted}
+use Rattle.sender.specs.declared.lossy.Enabled.{Enabled}
+use Rattle.sender.specs.declared.lossy.SenderState.{SenderState}
+use Rattle.sender.specs.declared.lossy.SenderState.the-variants as State
+use Rattle.sender.specs.declared.lossy.LossySender.{LossySender}
+use Rattle.sender.specs.declared.lossy.TimerTicked.{TimerTicked}
+use Rattle.sender.specs.declared.lossy.Sent.{Sent}
+use Rattle.sender.specs.declared.lossy.Heard.{Heard}
+use Rattle.sender.specs.declared.lossy.Heard.the-variants as Heard
+use Rattle.sender.specs.declared.lossy.Returned.{Returned}
+use Rattle.toggler.specs.declared.toggler.Toggled.{Toggled}
+use Rattle.link.specs.Ring.{placeAfter}
+use Rattle.link.specs.Link.{receiveOf, tryDeliver, tryTransmit}
+use Rattle.sender.specs.Sender.{timerDue, tickTimer, tickSend, enabledOf, disabledOf, returnedOf}
+use Rattle.toggler.specs.Toggler.{toggleOf}
 use Rattle.remy.specs.declared.simulation.Next.{Next}
 use Rattle.remy.specs.declared.simulation.Next.the-variants as Next
 use Rattle.remy.specs.declared.simulation.Simulation.{Simulation}

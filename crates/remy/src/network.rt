@@ -1,6 +1,6 @@
-use components::Limit;
-use components::Policy;
+use link::Limit;
 use rand::ContinuousDistribution;
+use sender::Policy;
 
 // The network of a description: the line's delay in seconds, its rate in bits per second, its loss,
 // the most bits that may wait, the bits of a packet, how many senders there are, how long they are

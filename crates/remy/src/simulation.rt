@@ -1,12 +1,12 @@
 use crate::network::RemyNetwork;
-use components::Line;
-use components::LossySender;
-use components::Packet;
-use components::Queued;
-use components::Toggler;
-use components::Transit;
+use link::Line;
+use link::Packet;
+use link::Transit;
 use meters::AverageFlowMeter;
 use quantities::Time;
+use sender::LossySender;
+use toggler::Queued;
+use toggler::Toggler;
 
 // The part whose turn is next, if any.
 pub enum Next {

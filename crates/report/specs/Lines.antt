@@ -11,7 +11,7 @@ use Rattle.meters.specs.declared.flow.Rtt.the-variants.{NoPacketsAcked, Known}
 use Rattle.meters.specs.declared.meter.AverageFlowMeter.{AverageFlowMeter}
 use Rattle.meters.specs.Sums.{FlowAnswer}
 use Rattle.meters.specs.Meter.{readOf}
-use Rattle.components.specs.declared.lossy.LossySender.{LossySender}
+use Rattle.sender.specs.declared.lossy.LossySender.{LossySender}
 use Rattle.remy.specs.declared.simulation.Name.{Name}
 use Rattle.remy.specs.declared.simulation.Name.the-variants as Name
 use Rattle.remy.specs.declared.simulation.Simulation.{Simulation}

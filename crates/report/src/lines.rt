@@ -4,7 +4,6 @@ ghost use Rattle.remy.specs.History.{letterOf};
 ghost use Rattle.description.specs.Printing.{PutIs};
 ghost use Rattle.meters.specs.Meter.{toldRead};
 ghost use Rattle.report.specs.Lines.{namedOf, rateOf, rttOf, recordLine, stopLine, flowAt};
-use components::LossySender;
 use description::print::Measured;
 use description::print::Named;
 use description::print::Put;
@@ -20,6 +19,7 @@ use remy::Mark;
 use remy::Name;
 use remy::Simulation;
 use remy::TickRecord;
+use sender::LossySender;
 
 // A mark as its letter.
 fn letter(mark: Mark) -> u8

@@ -1,12 +1,12 @@
 // The network of a description.
 ghost use mathlib.Core.Path.{_≡_};
 ghost use Rattle.report.specs.Network.{limitOf, distributionOf, policyOf, networkOf};
-use components::Limit;
-use components::Policy;
 use description::Description;
+use link::Limit;
 use quantities::float::from_bits;
 use rand::ContinuousDistribution;
 use remy::RemyNetwork;
+use sender::Policy;
 
 fn limit_of(limit: description::Limit) -> Limit
     ensures { λ r. ⌜ r ≡ limitOf limit ⌝ }

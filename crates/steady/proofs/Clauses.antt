@@ -3,7 +3,7 @@ use mathlib.Core.Path.{_≡_}
 use mathlib.Core.Bool.{true, _&&_, _||_}
 use lib.Ieee.{eq}
 use Rattle.quantities.specs.Doubles.{largest}
-use Rattle.components.specs.Queue.{queuePlaces}
+use Rattle.toggler.specs.Queue.{queuePlaces}
 use Rattle.remy.specs.declared.simulation.Simulation.{Simulation}
 use Rattle.remy.specs.State.{senderAt, togglerAt, meterAt, queuedAt, waitingItems, onLineItems, onLinePackets}
 use Rattle.remy.specs.Fit.{every, upTo, eachSender, held, heldIfAny, isIdle, heldSender, heldQueued, sinceStart, startedFit, meterStartFit, heldTimesFit, pastFit}

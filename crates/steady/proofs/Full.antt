@@ -10,9 +10,9 @@ use Rattle.quantities.specs.declared.time.OptionTime.the-variants.{None, Some}
 use Rattle.rand.specs.declared.generator.Rng.{Rng}
 use Rattle.rand.specs.Generator.{fromSeed, childOf}
 use Rattle.meters.specs.Meter.{newMeter}
-use Rattle.components.specs.declared.tick_queue.Queued.{Queued}
-use Rattle.components.specs.declared.tick_queue.Picked.{Picked}
-use Rattle.components.specs.Queue.{noQueued, pickOf, queuePlaces}
+use Rattle.toggler.specs.declared.tick_queue.Queued.{Queued}
+use Rattle.toggler.specs.declared.tick_queue.Picked.{Picked}
+use Rattle.toggler.specs.Queue.{noQueued, pickOf, queuePlaces}
 use Rattle.remy.specs.declared.network.RemyNetwork.{RemyNetwork}
 use Rattle.remy.specs.declared.simulation.Head.{Head}
 use Rattle.remy.specs.declared.simulation.Simulation.{Simulation}

@@ -14,14 +14,14 @@ use Rattle.quantities.specs.Doubles.{power}
 use Rattle.quantities.specs.Units.{spanOf, rateOf, amountOf, amountOverRate, after}
 use Rattle.quantities.proofs.Order.{le-known-r, le-refl}
 use Rattle.quantities.proofs.Ranges.{within, test→within, sending}
-use Rattle.components.specs.declared.packet.Packet.{Packet}
-use Rattle.components.specs.declared.packet.Transit.{Transit}
-use Rattle.components.specs.declared.link.Line.{Line}
-use Rattle.components.specs.Ring.{places, placeAfter, popped, items}
-use Rattle.components.specs.NewTime.{newTime}
-use Rattle.components.specs.Link.{admitted, departed, isDue, isFree, startedLine}
-use Rattle.components.proofs.Items.{items-push, items-pop, push-sound, pop-sound}
-use Rattle.components.proofs.Limits.{due-count, free-count}
+use Rattle.link.specs.declared.packet.Packet.{Packet}
+use Rattle.link.specs.declared.packet.Transit.{Transit}
+use Rattle.link.specs.declared.link.Line.{Line}
+use Rattle.link.specs.Ring.{places, placeAfter, popped, items}
+use Rattle.quantities.specs.NewTime.{newTime}
+use Rattle.link.specs.Link.{admitted, departed, isDue, isFree, startedLine}
+use Rattle.link.proofs.Items.{items-push, items-pop, push-sound, pop-sound}
+use Rattle.link.proofs.Limits.{due-count, free-count}
 use Rattle.remy.specs.declared.network.RemyNetwork.{RemyNetwork}
 use Rattle.remy.specs.declared.simulation.Simulation.{Simulation}
 use Rattle.remy.specs.State.{noPacket, noTransit, senderAt, meterAt, firstOf, frontOf, waitingItems, onLineItems, onLinePackets, packetBits, totalBits, withLine, withWaiting, withOnLine}

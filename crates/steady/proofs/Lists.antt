@@ -5,7 +5,7 @@ use mathlib.Core.List.{List, [], _∷_, _++_, map}
 use Prim.Native.Nat.{ℕ, _+_}
 use native.Mathlib.Nat.{add-assoc, zero-add}
 use lib.Dec.{eqb}
-use Rattle.components.specs.declared.packet.Packet.{Packet}
+use Rattle.link.specs.declared.packet.Packet.{Packet}
 use Rattle.remy.specs.Fit.{every, countOf}
 use Rattle.remy.proofs.Facts.{both-l, both-r, both-i}
 use Rattle.remy.proofs.Fresh.{All}

@@ -20,22 +20,22 @@ use Rattle.quantities.proofs.Ranges.{within, due-fine}
 use Rattle.rand.specs.declared.generator.Rng.{Rng}
 use Rattle.rand.specs.declared.distribution.ContinuousDistribution.{ContinuousDistribution}
 use Rattle.rand.specs.Draws.{PositiveDraw, drawOf, redraw, positiveOf}
-use Rattle.components.specs.declared.link.Arrival.{Arrival}
-use Rattle.components.specs.declared.link.Transmitted.{Transmitted}
-use Rattle.components.specs.declared.lossy.Enabled.{Enabled}
-use Rattle.components.specs.declared.lossy.Policy.{Policy}
-use Rattle.components.specs.declared.lossy.Policy.the-variants as Policy
-use Rattle.components.specs.declared.lossy.SenderState.{SenderState}
-use Rattle.components.specs.declared.lossy.SenderState.the-variants as State
-use Rattle.components.specs.declared.lossy.Sent.{Sent}
-use Rattle.components.specs.declared.lossy.TimerSet.{TimerSet}
-use Rattle.components.specs.declared.lossy.TimerTicked.{TimerTicked}
-use Rattle.components.specs.declared.toggler.Toggled.{Toggled}
-use Rattle.components.specs.Ring.{places}
-use Rattle.components.specs.NewTime.{timeFine, newTime}
-use Rattle.components.specs.Link.{isFree, admits, receiveOf, tryDeliver, tryTransmit}
-use Rattle.components.specs.Sender.{timerIn, timerSent, timerDue, tickTimer, tickSend}
-use Rattle.components.specs.Toggler.{toggleOf}
+use Rattle.link.specs.declared.link.Arrival.{Arrival}
+use Rattle.link.specs.declared.link.Transmitted.{Transmitted}
+use Rattle.sender.specs.declared.lossy.Enabled.{Enabled}
+use Rattle.sender.specs.declared.lossy.Policy.{Policy}
+use Rattle.sender.specs.declared.lossy.Policy.the-variants as Policy
+use Rattle.sender.specs.declared.lossy.SenderState.{SenderState}
+use Rattle.sender.specs.declared.lossy.SenderState.the-variants as State
+use Rattle.sender.specs.declared.lossy.Sent.{Sent}
+use Rattle.sender.specs.declared.lossy.TimerSet.{TimerSet}
+use Rattle.sender.specs.declared.lossy.TimerTicked.{TimerTicked}
+use Rattle.toggler.specs.declared.toggler.Toggled.{Toggled}
+use Rattle.link.specs.Ring.{places}
+use Rattle.quantities.specs.NewTime.{timeFine, newTime}
+use Rattle.link.specs.Link.{isFree, admits, receiveOf, tryDeliver, tryTransmit}
+use Rattle.sender.specs.Sender.{timerIn, timerSent, timerDue, tickTimer, tickSend}
+use Rattle.toggler.specs.Toggler.{toggleOf}
 use Rattle.remy.specs.declared.simulation.Next.{Next}
 use Rattle.remy.specs.declared.simulation.Next.the-variants as Next
 use Rattle.remy.specs.declared.simulation.Simulation.{Simulation}

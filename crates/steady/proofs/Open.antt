@@ -15,16 +15,16 @@ use Rattle.quantities.specs.Doubles.{zeroF, largest}
 use Rattle.quantities.specs.Units.{latestOf, earliestOptOf}
 use Rattle.quantities.proofs.Order.{le-trans}
 use Rattle.meters.specs.Meter.{isOn, totalFit, sumFit}
-use Rattle.components.specs.declared.packet.Packet.{Packet}
-use Rattle.components.specs.declared.packet.Transit.{Transit}
-use Rattle.components.specs.declared.lossy.Policy.{Policy}
-use Rattle.components.specs.declared.lossy.SenderState.{SenderState}
-use Rattle.components.specs.declared.lossy.SenderState.the-variants as State
-use Rattle.components.specs.Ring.{places, items, popped}
-use Rattle.components.specs.Queue.{queuePlaces}
-use Rattle.components.specs.Link.{nextTransmit, nextDeliver, nextTick}
-use Rattle.components.specs.Sender.{maySend, nextSend, stateNext, senderNext}
-use Rattle.components.proofs.Items.{Sound, items-empty, items-pop}
+use Rattle.link.specs.declared.packet.Packet.{Packet}
+use Rattle.link.specs.declared.packet.Transit.{Transit}
+use Rattle.sender.specs.declared.lossy.Policy.{Policy}
+use Rattle.sender.specs.declared.lossy.SenderState.{SenderState}
+use Rattle.sender.specs.declared.lossy.SenderState.the-variants as State
+use Rattle.link.specs.Ring.{places, items, popped}
+use Rattle.toggler.specs.Queue.{queuePlaces}
+use Rattle.link.specs.Link.{nextTransmit, nextDeliver, nextTick}
+use Rattle.sender.specs.Sender.{maySend, nextSend, stateNext, senderNext}
+use Rattle.link.proofs.Items.{Sound, items-empty, items-pop}
 use Rattle.remy.specs.declared.simulation.Next.{Next}
 use Rattle.remy.specs.declared.simulation.Next.the-variants as Next
 use Rattle.remy.specs.declared.simulation.Simulation.{Simulation}

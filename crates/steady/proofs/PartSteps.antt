@@ -12,18 +12,18 @@ use Rattle.quantities.specs.Units.{spanOf, since}
 use Rattle.rand.specs.declared.distribution.ContinuousDistribution.{ContinuousDistribution}
 use Rattle.rand.specs.Draws.{positiveOf}
 use Rattle.meters.specs.Meter.{isOn, switchedOf, recordedOf}
-use Rattle.components.specs.declared.packet.Packet.{Packet}
-use Rattle.components.specs.declared.lossy.Enabled.{Enabled}
-use Rattle.components.specs.declared.lossy.SenderState.{SenderState}
-use Rattle.components.specs.declared.lossy.SenderState.the-variants as State
-use Rattle.components.specs.declared.lossy.Heard.the-variants as Heard
-use Rattle.components.specs.declared.lossy.LossySender.{LossySender}
-use Rattle.components.specs.declared.lossy.Returned.{Returned}
-use Rattle.components.specs.declared.toggler.Toggler.{Toggler}
-use Rattle.components.specs.declared.toggler.Toggled.{Toggled}
-use Rattle.components.specs.NewTime.{newTime}
-use Rattle.components.specs.Sender.{withState, tickTimer, tickSend, enabledOf, disabledOf, acked, returnTo, returnedOf}
-use Rattle.components.specs.Toggler.{toggleOf}
+use Rattle.link.specs.declared.packet.Packet.{Packet}
+use Rattle.sender.specs.declared.lossy.Enabled.{Enabled}
+use Rattle.sender.specs.declared.lossy.SenderState.{SenderState}
+use Rattle.sender.specs.declared.lossy.SenderState.the-variants as State
+use Rattle.sender.specs.declared.lossy.Heard.the-variants as Heard
+use Rattle.sender.specs.declared.lossy.LossySender.{LossySender}
+use Rattle.sender.specs.declared.lossy.Returned.{Returned}
+use Rattle.toggler.specs.declared.toggler.Toggler.{Toggler}
+use Rattle.toggler.specs.declared.toggler.Toggled.{Toggled}
+use Rattle.quantities.specs.NewTime.{newTime}
+use Rattle.sender.specs.Sender.{withState, tickTimer, tickSend, enabledOf, disabledOf, acked, returnTo, returnedOf}
+use Rattle.toggler.specs.Toggler.{toggleOf}
 use Rattle.remy.specs.declared.simulation.Simulation.{Simulation}
 use Rattle.remy.specs.Network.{timesFit}
 use Rattle.remy.specs.State.{noToggler, noMeter, senderAt, togglerAt, meterAt, waitingItems, onLinePackets, packetBits, withSender, withToggler, withMeter}

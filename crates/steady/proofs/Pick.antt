@@ -19,20 +19,20 @@ use Rattle.quantities.specs.Units.{after as spanAfter}
 use Rattle.quantities.proofs.Order.{le-known-l, le-known-r, le-trans, le-antisym, later-left, later-right, later-least}
 use Rattle.quantities.proofs.Ranges.{test→within, within-finite, due-order}
 use Rattle.meters.specs.declared.meter.AverageFlowMeter.{AverageFlowMeter}
-use Rattle.components.specs.declared.packet.Packet.{Packet}
-use Rattle.components.specs.declared.packet.Transit.{Transit}
-use Rattle.components.specs.declared.link.Line.{Line}
-use Rattle.components.specs.declared.lossy.Policy.{Policy}
-use Rattle.components.specs.declared.lossy.Enabled.{Enabled}
-use Rattle.components.specs.declared.lossy.SenderState.{SenderState}
-use Rattle.components.specs.declared.lossy.SenderState.the-variants as State
-use Rattle.components.specs.declared.tick_queue.Queued.{Queued}
-use Rattle.components.specs.declared.tick_queue.Picked.{Picked}
-use Rattle.components.specs.Link.{nextTransmit, nextDeliver, nextTick}
-use Rattle.components.specs.Sender.{maySend, nextSend, stateNext, senderNext}
-use Rattle.components.specs.Queue.{queuePlaces, noQueued, pickOf}
-use Rattle.components.proofs.Items.{items-empty, items-pop}
-use Rattle.components.proofs.Least.{picked-nothing, picked-there, picked-inside, picked-le}
+use Rattle.link.specs.declared.packet.Packet.{Packet}
+use Rattle.link.specs.declared.packet.Transit.{Transit}
+use Rattle.link.specs.declared.link.Line.{Line}
+use Rattle.sender.specs.declared.lossy.Policy.{Policy}
+use Rattle.sender.specs.declared.lossy.Enabled.{Enabled}
+use Rattle.sender.specs.declared.lossy.SenderState.{SenderState}
+use Rattle.sender.specs.declared.lossy.SenderState.the-variants as State
+use Rattle.toggler.specs.declared.tick_queue.Queued.{Queued}
+use Rattle.toggler.specs.declared.tick_queue.Picked.{Picked}
+use Rattle.link.specs.Link.{nextTransmit, nextDeliver, nextTick}
+use Rattle.sender.specs.Sender.{maySend, nextSend, stateNext, senderNext}
+use Rattle.toggler.specs.Queue.{queuePlaces, noQueued, pickOf}
+use Rattle.link.proofs.Items.{items-empty, items-pop}
+use Rattle.toggler.proofs.Least.{picked-nothing, picked-there, picked-inside, picked-le}
 use Rattle.remy.specs.declared.simulation.Next.the-variants as Next
 use Rattle.remy.specs.declared.simulation.Simulation.{Simulation}
 use Rattle.remy.specs.State.{Role, link, sender, toggler, nobody, roleOf, noPacket, noTransit, senderAt, togglerAt, meterAt, firstOf, frontOf, queuedAt, waitingItems, onLineItems, withHead, withQueue}

@@ -15,19 +15,19 @@ use Rattle.quantities.specs.declared.time.OptionTime.{OptionTime}
 use Rattle.quantities.specs.declared.time.OptionTime.the-variants.{None, Some}
 use Rattle.quantities.specs.Units.{latestOf}
 use Rattle.meters.specs.declared.meter.AverageFlowMeter.{AverageFlowMeter}
-use Rattle.components.specs.declared.packet.Transit.{Transit}
-use Rattle.components.specs.declared.lossy.Policy.{Policy}
-use Rattle.components.specs.declared.lossy.Enabled.{Enabled}
-use Rattle.components.specs.declared.lossy.SenderState.{SenderState}
-use Rattle.components.specs.declared.lossy.SenderState.the-variants as State
-use Rattle.components.specs.declared.lossy.LossySender.{LossySender}
-use Rattle.components.specs.declared.toggler.Toggler.{Toggler}
-use Rattle.components.specs.declared.tick_queue.Queued.{Queued}
-use Rattle.components.specs.Ring.{items, popped}
-use Rattle.components.specs.Link.{nextTransmit, nextDeliver, nextTick}
-use Rattle.components.specs.Sender.{maySend, nextSend, stateNext, senderNext}
-use Rattle.components.specs.Queue.{queuePlaces, noQueued}
-use Rattle.components.proofs.Items.{items-pop}
+use Rattle.link.specs.declared.packet.Transit.{Transit}
+use Rattle.sender.specs.declared.lossy.Policy.{Policy}
+use Rattle.sender.specs.declared.lossy.Enabled.{Enabled}
+use Rattle.sender.specs.declared.lossy.SenderState.{SenderState}
+use Rattle.sender.specs.declared.lossy.SenderState.the-variants as State
+use Rattle.sender.specs.declared.lossy.LossySender.{LossySender}
+use Rattle.toggler.specs.declared.toggler.Toggler.{Toggler}
+use Rattle.toggler.specs.declared.tick_queue.Queued.{Queued}
+use Rattle.link.specs.Ring.{items, popped}
+use Rattle.link.specs.Link.{nextTransmit, nextDeliver, nextTick}
+use Rattle.sender.specs.Sender.{maySend, nextSend, stateNext, senderNext}
+use Rattle.toggler.specs.Queue.{queuePlaces, noQueued}
+use Rattle.link.proofs.Items.{items-pop}
 use Rattle.remy.specs.declared.simulation.Head.{Head}
 use Rattle.remy.specs.declared.simulation.Simulation.{Simulation}
 use Rattle.remy.specs.State.{Role, link, sender, toggler, nobody, senderPart, togglerPart, roleOf, noTransit, noSender, noToggler, senderAt, frontOf, queuedAt, withSender, withToggler, withMeter, withMeters, withQueue, withQueued}

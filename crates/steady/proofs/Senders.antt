@@ -6,13 +6,13 @@ use native.Mathlib.Omega.{arith}
 use borrow.Author.Tests.{le-leb, leb-false, eqb-false}
 use lib.Dec.{leb, eqb}
 use Rattle.quantities.specs.declared.time.Time.{Time}
-use Rattle.components.specs.declared.packet.Packet.{Packet}
-use Rattle.components.specs.declared.lossy.Policy.{Policy}
-use Rattle.components.specs.declared.lossy.Policy.the-variants as Policy
-use Rattle.components.specs.declared.lossy.Enabled.{Enabled}
-use Rattle.components.specs.declared.lossy.Sent.{Sent}
-use Rattle.components.specs.declared.lossy.TimerTicked.{TimerTicked}
-use Rattle.components.specs.Sender.{firstWindow, windowSent, windowCounted, timerIn, timerSent, tickTimer, notSent, sendWith, tickSend, acked}
+use Rattle.link.specs.declared.packet.Packet.{Packet}
+use Rattle.sender.specs.declared.lossy.Policy.{Policy}
+use Rattle.sender.specs.declared.lossy.Policy.the-variants as Policy
+use Rattle.sender.specs.declared.lossy.Enabled.{Enabled}
+use Rattle.sender.specs.declared.lossy.Sent.{Sent}
+use Rattle.sender.specs.declared.lossy.TimerTicked.{TimerTicked}
+use Rattle.sender.specs.Sender.{firstWindow, windowSent, windowCounted, timerIn, timerSent, tickTimer, notSent, sendWith, tickSend, acked}
 use Rattle.remy.specs.Network.{windowFit, gapFit, policyFit}
 use Rattle.remy.proofs.Facts.{both-l, both-r, both-i, between-low, between-high}
 use Rattle.remy.proofs.Steps.{cond-elim}

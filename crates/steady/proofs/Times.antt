@@ -22,11 +22,11 @@ use Rattle.quantities.proofs.Order.{le-trans, le-refl, le-known-r}
 use Rattle.quantities.proofs.Values.{Is, Rounds, own, le-is, rounds-below, rounds-from-zero, sub-rounds}
 use Rattle.quantities.proofs.Ranges.{within, within-wider, within-finite, test→within, add-within}
 use Rattle.meters.specs.Meter.{totalFit}
-use Rattle.components.specs.declared.lossy.Policy.{Policy}
-use Rattle.components.specs.declared.lossy.Policy.the-variants as Policy
-use Rattle.components.specs.declared.lossy.TimerSet.{TimerSet}
-use Rattle.components.specs.NewTime.{timeFine, newTime}
-use Rattle.components.specs.Sender.{timerIn, timerSent}
+use Rattle.sender.specs.declared.lossy.Policy.{Policy}
+use Rattle.sender.specs.declared.lossy.Policy.the-variants as Policy
+use Rattle.sender.specs.declared.lossy.TimerSet.{TimerSet}
+use Rattle.quantities.specs.NewTime.{timeFine, newTime}
+use Rattle.sender.specs.Sender.{timerIn, timerSent}
 use Rattle.remy.specs.Network.{windowFit, gapFit, policyFit}
 use Rattle.remy.proofs.Facts.{both-r, holds, range-low, range-high, range-i}
 use Rattle.remy.proofs.Parts.{new-is}

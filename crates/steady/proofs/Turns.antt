@@ -12,26 +12,26 @@ use Rattle.quantities.specs.Doubles.{power}
 use Rattle.quantities.specs.Units.{spanOf, rateOf, amountOverRate}
 use Rattle.rand.specs.Draws.{unitOf}
 use Rattle.meters.specs.Meter.{switchedOf}
-use Rattle.components.specs.declared.packet.Packet.{Packet}
-use Rattle.components.specs.declared.link.Line.{Line}
-use Rattle.components.specs.declared.link.Arrival.{Arrival}
-use Rattle.components.specs.declared.link.Left.{Left}
-use Rattle.components.specs.declared.link.Left.the-variants as Left
-use Rattle.components.specs.declared.link.Begun.the-variants as Begun
-use Rattle.components.specs.declared.link.Delivered.{Delivered}
-use Rattle.components.specs.declared.link.Transmitted.{Transmitted}
-use Rattle.components.specs.declared.lossy.SenderState.{SenderState}
-use Rattle.components.specs.declared.lossy.SenderState.the-variants as State
-use Rattle.components.specs.declared.lossy.LossySender.{LossySender}
-use Rattle.components.specs.declared.lossy.Heard.{Heard}
-use Rattle.components.specs.declared.lossy.Heard.the-variants as Heard
-use Rattle.components.specs.declared.toggler.Toggled.{Toggled}
-use Rattle.components.specs.Ring.{places, placeAfter}
-use Rattle.components.specs.Link.{admits, admitted, receiveOf, isDue, departed, tryDeliver, isFree, startedLine, notStarted, startWith, tryTransmit}
-use Rattle.components.specs.Sender.{tickTimer, tickSend, timerDue, returnedOf}
-use Rattle.components.specs.Toggler.{toggleOf}
-use Rattle.components.specs.NewTime.{newTime}
-use Rattle.components.specs.Queue.{pickOf}
+use Rattle.link.specs.declared.packet.Packet.{Packet}
+use Rattle.link.specs.declared.link.Line.{Line}
+use Rattle.link.specs.declared.link.Arrival.{Arrival}
+use Rattle.link.specs.declared.link.Left.{Left}
+use Rattle.link.specs.declared.link.Left.the-variants as Left
+use Rattle.link.specs.declared.link.Begun.the-variants as Begun
+use Rattle.link.specs.declared.link.Delivered.{Delivered}
+use Rattle.link.specs.declared.link.Transmitted.{Transmitted}
+use Rattle.sender.specs.declared.lossy.SenderState.{SenderState}
+use Rattle.sender.specs.declared.lossy.SenderState.the-variants as State
+use Rattle.sender.specs.declared.lossy.LossySender.{LossySender}
+use Rattle.sender.specs.declared.lossy.Heard.{Heard}
+use Rattle.sender.specs.declared.lossy.Heard.the-variants as Heard
+use Rattle.toggler.specs.declared.toggler.Toggled.{Toggled}
+use Rattle.link.specs.Ring.{places, placeAfter}
+use Rattle.link.specs.Link.{admits, admitted, receiveOf, isDue, departed, tryDeliver, isFree, startedLine, notStarted, startWith, tryTransmit}
+use Rattle.sender.specs.Sender.{tickTimer, tickSend, timerDue, returnedOf}
+use Rattle.toggler.specs.Toggler.{toggleOf}
+use Rattle.quantities.specs.NewTime.{newTime}
+use Rattle.toggler.specs.Queue.{pickOf}
 use Rattle.remy.specs.declared.network.RemyNetwork.{RemyNetwork}
 use Rattle.remy.specs.declared.simulation.Simulation.{Simulation}
 use Rattle.remy.specs.declared.simulation.Mark.the-variants as Mark

@@ -5,9 +5,9 @@ use mathlib.Core.Bool.{Bool, _&&_}
 use lib.Ieee.{le}
 use lib.ListN.{length}
 use Rattle.quantities.specs.Units.{spanOf, after}
-use Rattle.components.specs.declared.packet.Transit.{Transit}
-use Rattle.components.specs.Ring.{places}
-use Rattle.components.specs.Queue.{queuePlaces}
+use Rattle.link.specs.declared.packet.Transit.{Transit}
+use Rattle.link.specs.Ring.{places}
+use Rattle.toggler.specs.Queue.{queuePlaces}
 use Rattle.remy.specs.declared.simulation.Simulation.{Simulation}
 use Rattle.remy.specs.State.{onLineItems}
 use Rattle.remy.specs.Fit.{every, fit}

@@ -5,12 +5,12 @@ use native.Mathlib.Omega.{arith}
 use lib.Ieee.{Float, lt}
 use Rattle.quantities.specs.declared.time.Time.{Time}
 use Rattle.rand.specs.Draws.{unitOf}
-use Rattle.components.specs.declared.packet.Transit.{Transit}
-use Rattle.components.specs.declared.ring.Ring.{Ring}
-use Rattle.components.specs.declared.link.Line.{Line}
-use Rattle.components.specs.declared.link.Left.the-variants as Left
-use Rattle.components.specs.declared.link.Delivered.{Delivered}
-use Rattle.components.specs.Link.{isDue, departed, tryDeliver}
+use Rattle.link.specs.declared.packet.Transit.{Transit}
+use Rattle.link.specs.declared.ring.Ring.{Ring}
+use Rattle.link.specs.declared.link.Line.{Line}
+use Rattle.link.specs.declared.link.Left.the-variants as Left
+use Rattle.link.specs.declared.link.Delivered.{Delivered}
+use Rattle.link.specs.Link.{isDue, departed, tryDeliver}
 use Rattle.remy.proofs.Steps.{cond-elim}
 
 abbrev pub Ringed : Ring → Type 0

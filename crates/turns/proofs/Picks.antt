@@ -8,9 +8,9 @@ use lib.ListN.{length, getD, set}
 use lib.Seq.{set-getD}
 use Rattle.quantities.specs.declared.time.OptionTime.{OptionTime}
 use Rattle.quantities.specs.declared.time.OptionTime.the-variants.{None, Some}
-use Rattle.components.specs.declared.tick_queue.Queued.{Queued}
-use Rattle.components.specs.declared.tick_queue.Picked.{Picked}
-use Rattle.components.specs.Queue.{noQueued, sooner, better, pickFrom, pickOf}
+use Rattle.toggler.specs.declared.tick_queue.Queued.{Queued}
+use Rattle.toggler.specs.declared.tick_queue.Picked.{Picked}
+use Rattle.toggler.specs.Queue.{noQueued, sooner, better, pickFrom, pickOf}
 use Rattle.remy.specs.declared.simulation.Head.{Head}
 use Rattle.remy.specs.declared.simulation.Simulation.{Simulation}
 use Rattle.remy.specs.State.{withHead, withQueue}

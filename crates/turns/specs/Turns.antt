@@ -10,33 +10,33 @@ use Rattle.quantities.specs.Doubles.{power}
 use Rattle.quantities.specs.Units.{spanOf, rateOf, amountOf, since}
 use Rattle.meters.specs.declared.meter.AverageFlowMeter.{AverageFlowMeter}
 use Rattle.meters.specs.Meter.{recordedOf}
-use Rattle.components.specs.declared.packet.Packet.{Packet}
-use Rattle.components.specs.declared.packet.Transit.{Transit}
-use Rattle.components.specs.declared.link.Limit.{Limit}
-use Rattle.components.specs.declared.link.Line.{Line}
-use Rattle.components.specs.declared.link.Arrival.{Arrival}
-use Rattle.components.specs.declared.link.Left.{Left}
-use Rattle.components.specs.declared.link.Left.the-variants as Left
-use Rattle.components.specs.declared.link.Begun.{Begun}
-use Rattle.components.specs.declared.link.Begun.the-variants as Begun
-use Rattle.components.specs.declared.link.Delivered.{Delivered}
-use Rattle.components.specs.declared.link.Transmitted.{Transmitted}
-use Rattle.components.specs.declared.lossy.Policy.{Policy}
-use Rattle.components.specs.declared.lossy.Enabled.{Enabled}
-use Rattle.components.specs.declared.lossy.SenderState.{SenderState}
-use Rattle.components.specs.declared.lossy.SenderState.the-variants as State
-use Rattle.components.specs.declared.lossy.LossySender.{LossySender}
-use Rattle.components.specs.declared.lossy.TimerTicked.{TimerTicked}
-use Rattle.components.specs.declared.lossy.Sent.{Sent}
-use Rattle.components.specs.declared.lossy.Heard.{Heard}
-use Rattle.components.specs.declared.lossy.Heard.the-variants as Heard
-use Rattle.components.specs.declared.lossy.Returned.{Returned}
-use Rattle.components.specs.declared.toggler.Toggler.{Toggler}
-use Rattle.components.specs.declared.tick_queue.Queued.{Queued}
-use Rattle.components.specs.Ring.{placeAfter}
-use Rattle.components.specs.Link.{receiveOf, nextTick, tryDeliver, tryTransmit}
-use Rattle.components.specs.Sender.{timerDue, tickTimer, tickSend, enabledOf, disabledOf, senderNext, returnedOf}
-use Rattle.components.specs.Queue.{noQueued}
+use Rattle.link.specs.declared.packet.Packet.{Packet}
+use Rattle.link.specs.declared.packet.Transit.{Transit}
+use Rattle.link.specs.declared.link.Limit.{Limit}
+use Rattle.link.specs.declared.link.Line.{Line}
+use Rattle.link.specs.declared.link.Arrival.{Arrival}
+use Rattle.link.specs.declared.link.Left.{Left}
+use Rattle.link.specs.declared.link.Left.the-variants as Left
+use Rattle.link.specs.declared.link.Begun.{Begun}
+use Rattle.link.specs.declared.link.Begun.the-variants as Begun
+use Rattle.link.specs.declared.link.Delivered.{Delivered}
+use Rattle.link.specs.declared.link.Transmitted.{Transmitted}
+use Rattle.sender.specs.declared.lossy.Policy.{Policy}
+use Rattle.sender.specs.declared.lossy.Enabled.{Enabled}
+use Rattle.sender.specs.declared.lossy.SenderState.{SenderState}
+use Rattle.sender.specs.declared.lossy.SenderState.the-variants as State
+use Rattle.sender.specs.declared.lossy.LossySender.{LossySender}
+use Rattle.sender.specs.declared.lossy.TimerTicked.{TimerTicked}
+use Rattle.sender.specs.declared.lossy.Sent.{Sent}
+use Rattle.sender.specs.declared.lossy.Heard.{Heard}
+use Rattle.sender.specs.declared.lossy.Heard.the-variants as Heard
+use Rattle.sender.specs.declared.lossy.Returned.{Returned}
+use Rattle.toggler.specs.declared.toggler.Toggler.{Toggler}
+use Rattle.toggler.specs.declared.tick_queue.Queued.{Queued}
+use Rattle.link.specs.Ring.{placeAfter}
+use Rattle.link.specs.Link.{receiveOf, nextTick, tryDeliver, tryTransmit}
+use Rattle.sender.specs.Sender.{timerDue, tickTimer, tickSend, enabledOf, disabledOf, senderNext, returnedOf}
+use Rattle.toggler.specs.Queue.{noQueued}
 use Rattle.remy.specs.declared.network.RemyNetwork.{RemyNetwork}
 use Rattle.remy.specs.declared.simulation.Next.{Next}
 use Rattle.remy.specs.declared.simulation.Next.the-variants as Next

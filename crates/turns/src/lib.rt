@@ -8,19 +8,12 @@ ghost use Rattle.remy.specs.State.{roleOf};
 ghost use Rattle.remy.specs.Queue.{headOf};
 ghost use Rattle.remy.specs.Tick.{emptyRecord, begunName};
 ghost use Rattle.turns.specs.Turns.{nowRole, nowOf, leftName, ownerOf, linkActed, onLineAt, heardBy, linkNote, linkSlot, senderSlot, senderActed, arrivedAt, waitingAt, senderNote, switchedTo, togglerNote, togglerSlot, placeAfterPick};
-use components::Begun;
-use components::Heard;
-use components::Left;
-use components::Limit;
-use components::Line;
-use components::LossySender;
-use components::Packet;
-use components::Picked;
-use components::Policy;
-use components::Queued;
-use components::SenderState;
-use components::Toggler;
-use components::Transit;
+use link::Begun;
+use link::Left;
+use link::Limit;
+use link::Line;
+use link::Packet;
+use link::Transit;
 use meters::AverageFlowMeter;
 use meters::Reception;
 use meters::record_of;
@@ -35,6 +28,13 @@ use remy::Name;
 use remy::Next;
 use remy::RemyNetwork;
 use remy::TickRecord;
+use sender::Heard;
+use sender::LossySender;
+use sender::Policy;
+use sender::SenderState;
+use toggler::Picked;
+use toggler::Queued;
+use toggler::Toggler;
 
 // Whose turn it is: a part's, or nobody's with the number of the stop (0 for idle).
 pub enum Now {
@@ -144,20 +144,13 @@ pub fn link_acts(
     requires { ⌜ (line .waiting .start < 512) × (line .«on_line» .start < 512) × (line .«on_line» .count ≤ 512) ⌝ }
     ensures { λ r. ⌜ r ≡ linkActed network line clock front first ⌝ }
 {
-    let d = components::link::try_deliver(line, clock, front, network.loss);
+    let d = link::try_deliver(line, clock, front, network.loss);
     let left = d.left;
     let on_line = d.line.on_line;
     let at = on_line.end();
     let delay = TimeSpan(network.delay);
     let rate = InformationRate(network.rate);
-    let t = components::link::try_transmit(
-        d.line,
-        clock,
-        first,
-        delay,
-        rate,
-        Information(network.bits),
-    );
+    let t = link::try_transmit(d.line, clock, first, delay, rate, Information(network.bits));
     let begun = t.begun;
     let line = t.line;
     LinkActed {
@@ -278,7 +271,7 @@ pub fn link_slot(changed: bool, line: Line, clock: Time, front: Transit, old: Qu
     if !changed {
         return old;
     }
-    let time = components::link::next_tick(line, clock, front.due);
+    let time = link::next_tick(line, clock, front.due);
     Queued { time }
 }
 
@@ -358,7 +351,7 @@ pub fn arrive(limit: Limit, bits: u64, line: Line, sending: Sending) -> Arriving
             line,
         };
     };
-    let a = components::link::receive(limit, line, Information(bits));
+    let a = link::receive(limit, line, Information(bits));
     let line = a.line;
     if a.admitted {
         Arriving {

@@ -1,7 +1,7 @@
 -- The callees' results, put together. Assumes nothing.
 use mathlib.Core.Path.{sym, subst}
 use Prim.Native.Nat.{_<_}
-use Rattle.components.specs.declared.link.Delivered.{Delivered}
+use Rattle.link.specs.declared.link.Delivered.{Delivered}
 use Rattle.turns.proofs.InRange.{Ringed, on-line-range, waiting-range}
 use Rattle.turns.specs.Turns.{linkActed}
 use borrow.Author.Needs.{needs}

@@ -6,7 +6,7 @@ use mathlib.Core.List.{List, _++_}
 use native.Mathlib.Omega.{arith}
 use lib.ListN.{length, take, length-set}
 use borrow.Author.Needs.{needs}
-use Rattle.components.specs.declared.tick_queue.Queued.{Queued}
+use Rattle.toggler.specs.declared.tick_queue.Queued.{Queued}
 use Rattle.remy.specs.State.{withQueue}
 use Rattle.remy.specs.Queue.{nextTimeOf}
 use Rattle.remy.specs.Build.{ownTimes, queuedAll}

@@ -3,7 +3,7 @@ use Prim.Native.Nat.{_-_, _≤_}
 use mathlib.Core.Path.{_≡_, ap, _∙_}
 use native.Mathlib.Omega.{arith}
 use borrow.Author.Needs.{needs}
-use Rattle.components.specs.Ring.{itemsFrom}
+use Rattle.link.specs.Ring.{itemsFrom}
 use Rattle.remy.specs.State.{noTransit}
 use Rattle.remy.specs.Fit.{rising}
 use Rattle.fitness.specs.Tests.{dueTest}

@@ -4,7 +4,7 @@ use mathlib.Core.Path.{_≡_, ap, _∙_}
 use native.Mathlib.Omega.{arith}
 use borrow.Author.Tests.{not-true, not-false}
 use borrow.Author.Needs.{needs}
-use Rattle.components.specs.Ring.{itemsFrom}
+use Rattle.link.specs.Ring.{itemsFrom}
 use Rattle.remy.specs.State.{noTransit}
 use Rattle.remy.specs.Fit.{every}
 use Rattle.fitness.specs.Tests.{transitTest, onLineTest}

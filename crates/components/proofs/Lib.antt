@@ -1,5 +1,0 @@
--- Laws that the functions' proofs and the crates above cite.
-pub mod Items
-pub mod Least
-pub mod Limits
-pub mod Pick

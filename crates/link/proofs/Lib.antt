@@ -1,0 +1,3 @@
+-- Laws that the functions' proofs and the crates above cite.
+pub mod Items
+pub mod Limits

@@ -1,0 +1,30 @@
+-- Each arm rewrites by its case. Assumes nothing.
+use Rattle.sender.specs.Sender.{windowSent}
+use borrow.Author.Needs.{needs}
+use Rattle.sender.proofs.lossy.Policy.packet_sent.Statement.{statement}
+use Rattle.sender.proofs.lossy.Policy.packet_sent.Tie as tie
+
+enum-known-self : tie.Need-enum-known-self
+enum-known-self c = search needs
+
+enum-told : tie.Need-enum-told
+enum-told c = search needs
+
+enum-told-2 : tie.Need-enum-told-2
+enum-told-2 c = search needs
+
+returns : tie.Need-returns
+unfolding windowSent
+returns c = rw (c .before .self .given .1)
+
+returns-2 : tie.Need-returns-2
+unfolding windowSent
+returns-2 c = rw (c .enum-told .given .1)
+
+returns-3 : tie.Need-returns-3
+unfolding windowSent
+returns-3 c = rw (c .enum-told2 .given .1)
+
+pub packet-sent-spec : {M : Type 1} → statement M
+packet-sent-spec =
+    tie.close (tie.spec enum-known-self enum-told enum-told-2 returns returns-2 returns-3)
