@@ -8,7 +8,7 @@ use lib.Dec.{leb}
 use lib.ListN.{length, take, drop, length-append}
 use lib.Seq.{length-take-le, take-at}
 use Rattle.remy.proofs.Steps.{cond-elim}
-use Rattle.description.specs.Printing.{written}
+use Rattle.printer.specs.Printing.{written}
 use Rattle.report.specs.declared.run.Report.{Report}
 use Rattle.report.specs.declared.run.Filled.{Filled}
 use Rattle.report.specs.Report.{Puts, puts, none, leftOf, FilledIs}

@@ -7,8 +7,9 @@ use Rattle.description.specs.declared.Limit.the-variants.{Bits}
 use Rattle.description.specs.declared.Distribution.the-variants.{Always}
 use Rattle.description.specs.declared.Policy.the-variants.{Held}
 use Rattle.description.specs.declared.ReadDescription.the-variants.{Given}
-use Rattle.description.specs.Text.{digitByte, digitsOf, hexOf, decimalWithin, decimalOf, textOf, InWidth}
-use Rattle.description.specs.Printing.{recordOf, stopOf, flowOf}
+use Rattle.notation.specs.Notation.{digitByte, digitsOf, hexOf, decimalWithin, decimalOf}
+use Rattle.description.specs.Text.{textOf, InWidth}
+use Rattle.printer.specs.Printing.{recordOf, stopOf, flowOf}
 use Rattle.remy.proofs.Opened.{ticking}
 use Rattle.report.specs.Lines.{recordLine, stopLine, flowAt, flowLines, flowCount, recordLines, endLines, runLines}
 use Rattle.report.specs.Report.{leftOf, reportOf}

@@ -4,12 +4,12 @@ use mathlib.Core.List.{List, [], _∷_, _++_, append-assoc, cons-eq-cons}
 use mathlib.Core.Logic.{inl, inr}
 use mathlib.Core.Path.{_≡_, sym, _∙_}
 use native.Mathlib.Omega.{arith}
-use Rattle.description.specs.Words.{lf, colon, noneLine}
-use Rattle.description.specs.Text.{decimalOf}
-use Rattle.description.specs.Reading.{NoDigit, DigitIs, wordForm, decimalForm, either}
+use Rattle.notation.specs.Notation.{lf, colon, decimalOf}
+use Rattle.description.specs.Words.{noneLine}
+use Rattle.notation.specs.Reading.{NoDigit, DigitIs, wordForm, decimalForm, either}
 use Rattle.description.specs.Lines.{most64, alwaysForm, uniformForm, heldForm, grownForm, timedForm}
-use Rattle.description.proofs.Digits.{digit-none}
-use Rattle.description.proofs.Written.{decimal-head}
+use Rattle.notation.proofs.Digits.{digit-none}
+use Rattle.notation.proofs.Written.{decimal-head}
 use Rattle.description.proofs.Forms.{Apart}
 
 no-digit : (x : ℕ) → DigitIs x 16 → NoDigit 16 (x ∷ [])

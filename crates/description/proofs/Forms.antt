@@ -4,7 +4,7 @@ use mathlib.Core.List.{List, _++_, append-assoc, append-cancel-left}
 use mathlib.Core.Logic.{_⊎_, inl, inr}
 use mathlib.Core.Path.{_≡_, sym, ap, _∙_}
 use lib.ListN.{drop}
-use Rattle.description.specs.Reading.{Form, Outcome, found, refused, Reads, Found, Absent, wordForm, keyed, pair, either}
+use Rattle.notation.specs.Reading.{Form, Outcome, found, refused, Reads, Found, Absent, wordForm, keyed, pair, either}
 
 -- a value of the first form, then one of the second
 module _ {A B : Type 0} {F : Form A} {text : List ℕ} {at : ℕ} where

@@ -4,7 +4,8 @@ use mathlib.Core.List.{List, [], _∷_, _++_}
 use Prim.Native.Nat.{ℕ, suc, _+_, _≤_, _<_, _^_}
 use native.Mathlib.Omega.{arith}
 use lib.ListN.{length, length-append}
-use Rattle.description.specs.Words.{lf, colon, delayKey, rateKey, lossKey, limitKey, bitsKey, sendersKey, onKey, offKey, policyKey, seedKey, ticksKey, alwaysKey, uniformKey, heldKey, grownKey, timedKey}
+use Rattle.notation.specs.Notation.{lf, colon, hexOf, decimalOf}
+use Rattle.description.specs.Words.{delayKey, rateKey, lossKey, limitKey, bitsKey, sendersKey, onKey, offKey, policyKey, seedKey, ticksKey, alwaysKey, uniformKey, heldKey, grownKey, timedKey}
 use Rattle.description.specs.declared.Limit.{Limit}
 use Rattle.description.specs.declared.Limit.the-variants as L
 use Rattle.description.specs.declared.Distribution.{Distribution}
@@ -12,8 +13,8 @@ use Rattle.description.specs.declared.Distribution.the-variants.{Always,
 use Rattle.description.specs.declared.Policy.{Policy}
 use Rattle.description.specs.declared.Policy.the-variants.{Held, Grown, Timed}
 use Rattle.description.specs.declared.Description.{Description}
-use Rattle.description.specs.Text.{hexOf, decimalOf, double, whole, limitOf, distributionOf, policyOf, textOf, limitInWidth, policyInWidth, InWidth}
-use Rattle.description.proofs.Written.{hex-length, decimal-length-le}
+use Rattle.description.specs.Text.{double, whole, limitOf, distributionOf, policyOf, textOf, limitInWidth, policyInWidth, InWidth}
+use Rattle.notation.proofs.Written.{hex-length, decimal-length-le}
 
 -- ---- the parts of a line
 

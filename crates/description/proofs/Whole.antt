@@ -5,9 +5,10 @@ use mathlib.Core.Logic.{_⊎_, inl, inr}
 use mathlib.Core.Path.{_≡_, refl, sym, ap, _∙_, subst}
 use native.Mathlib.Omega.{arith}
 use lib.ListN.{length, length-drop, drop-of-length-le}
-use Rattle.description.specs.Words.{lf, noneLine, delayKey, rateKey, lossKey, limitKey, bitsKey, sendersKey, onKey, offKey, policyKey, seedKey, ticksKey}
+use Rattle.notation.specs.Notation.{lf}
+use Rattle.description.specs.Words.{noneLine, delayKey, rateKey, lossKey, limitKey, bitsKey, sendersKey, onKey, offKey, policyKey, seedKey, ticksKey}
 use Rattle.description.specs.Text.{textOf, limitOf, distributionOf, policyOf, InWidth, limitInWidth, distributionInWidth, policyInWidth, ReadIs, numberOf, double, whole}
-use Rattle.description.specs.Reading.{Found, Absent, wordForm, decimalForm, either}
+use Rattle.notation.specs.Reading.{Found, Absent, wordForm, decimalForm, either}
 use Rattle.description.specs.Lines.{most64, LinkCases, LoadCases, CourseCases, limitCase, distributionCase, policyCase, alwaysForm, uniformForm, heldForm, grownForm, timedForm, limitForm, distributionForm, policyForm, wholeForm}
 use Rattle.description.specs.declared.Limit.{Limit}
 use Rattle.description.specs.declared.Limit.the-variants as L

@@ -2,8 +2,9 @@
 use Prim.Native.Nat.{ℕ, _-_, _^_}
 use mathlib.Core.List.{List}
 use mathlib.Core.Logic.{_⊎_, inl, inr}
-use Rattle.description.specs.Words.{lf, colon, delayKey, rateKey, lossKey, limitKey, bitsKey, sendersKey, onKey, offKey, policyKey, seedKey, ticksKey, noneLine, alwaysKey, uniformKey, heldKey, grownKey, timedKey}
-use Rattle.description.specs.Reading.{Form, Outcome, found, refused, wordForm, hexForm, decimalForm, keyed, pair, either}
+use Rattle.notation.specs.Notation.{lf, colon}
+use Rattle.description.specs.Words.{delayKey, rateKey, lossKey, limitKey, bitsKey, sendersKey, onKey, offKey, policyKey, seedKey, ticksKey, noneLine, alwaysKey, uniformKey, heldKey, grownKey, timedKey}
+use Rattle.notation.specs.Reading.{Form, Outcome, found, refused, wordForm, hexForm, decimalForm, keyed, pair, either}
 use Rattle.description.specs.declared.Limit.{Limit}
 use Rattle.description.specs.declared.Limit.the-variants as L
 use Rattle.description.specs.declared.Distribution.{Distribution}

@@ -1,11 +1,10 @@
 -- The text of a description (document 01, "The text program"). Definitions only.
 -- A text is the list of its bytes.
-use Prim.Native.Nat.{ℕ, zero, suc, _+_, _/_, _%_, _^_, _≤_, _<_}
-use mathlib.Core.Bool.{cond}
+use Prim.Native.Nat.{ℕ, _^_, _≤_, _<_}
 use mathlib.Core.List.{List, [], _∷_, _++_}
 use mathlib.Core.Path.{_≡_}
-use lib.Dec.{ltb}
-use Rattle.description.specs.Words.{lf, colon, delayKey, rateKey, lossKey, limitKey, bitsKey, sendersKey, onKey, offKey, policyKey, seedKey, ticksKey, noneLine, alwaysKey, uniformKey, heldKey, grownKey, timedKey}
+use Rattle.notation.specs.Notation.{lf, colon, hexOf, decimalOf}
+use Rattle.description.specs.Words.{delayKey, rateKey, lossKey, limitKey, bitsKey, sendersKey, onKey, offKey, policyKey, seedKey, ticksKey, noneLine, alwaysKey, uniformKey, heldKey, grownKey, timedKey}
 use Rattle.description.specs.declared.Limit.{Limit}
 use Rattle.description.specs.declared.Limit.the-variants as L
 use Rattle.description.specs.declared.Distribution.{Distribution}
@@ -15,30 +14,6 @@ use Rattle.description.specs.declared.Policy.the-variants.{Held, Grown, 
 use Rattle.description.specs.declared.Description.{Description}
 use Rattle.description.specs.declared.ReadDescription.{ReadDescription}
 use Rattle.description.specs.declared.ReadDescription.the-variants.{Given, Malformed}
-
--- a digit: `0` to `9`, then `a` to `f`
-unfoldable pub digitByte : ℕ → ℕ
-digitByte d = cond (ltb d 10) (48 + d) (87 + d)
-
--- the last k digits of n to the base b, the highest first
-unfoldable pub digitsOf : ℕ → ℕ → ℕ → List ℕ
-digitsOf b zero n = []
-digitsOf b (suc k) n = digitsOf b k (n / b) ++ (digitByte (n % b) ∷ [])
-
--- a double: the 16 lower-case hexadecimal digits of its bits
-unfoldable pub hexOf : ℕ → List ℕ
-hexOf n = digitsOf 16 16 n
-
--- n in decimal, by at most k divisions: below 10 it is one digit, else the decimal of n / 10 and the last digit
-unfoldable pub decimalWithin : ℕ → ℕ → List ℕ
-decimalWithin zero n = digitByte n ∷ []
-decimalWithin (suc k) n =
-    let more = decimalWithin k (n / 10) ++ (digitByte (n % 10) ∷ []) in
-    cond (ltb n 10) (digitByte n ∷ []) more
-
--- a whole number: decimal without leading zeros. n needs no more than n divisions to come below 10
-unfoldable pub decimalOf : ℕ → List ℕ
-decimalOf n = decimalWithin n n
 
 -- a line's text from its key: the key, the double or whole number, and what ends it
 abbrev pub double : List ℕ → ℕ → ℕ → List ℕ

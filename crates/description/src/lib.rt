@@ -1,11 +1,9 @@
-// The text of a description of a network, read and printed (document 01, "The text program").
+// The text of a description of a network, read (document 01, "The text program").
 ghost use mathlib.Core.Path.{_≡_};
 ghost use Rattle.description.specs.Text.{ReadIs};
 ghost use Rattle.description.specs.Lines.{gatheredOf};
 
 mod lines;
-pub mod print;
-mod scan;
 
 use lines::Course;
 use lines::CourseAt;

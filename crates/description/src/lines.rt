@@ -1,15 +1,15 @@
 // The lines of a description.
 ghost use mathlib.Core.List.{[], _∷_};
-ghost use Rattle.description.specs.Reading.{Reads, NoDigit, numbered, keyed};
+ghost use Rattle.notation.specs.Reading.{Reads, NoDigit, numbered, keyed};
 ghost use Rattle.description.specs.Lines.{twofold, limited, distributed, governed, linked, loaded, coursed, kindForm, twoForm, limitForm, distributionForm, policyForm, linkForm, loadForm, courseForm};
 use crate::Distribution;
 use crate::Limit;
 use crate::Policy;
-use crate::scan::Number;
-use crate::scan::Place;
-use crate::scan::decimal;
-use crate::scan::hex16;
-use crate::scan::word;
+use notation::scan::Number;
+use notation::scan::Place;
+use notation::scan::decimal;
+use notation::scan::hex16;
+use notation::scan::word;
 
 // The greatest numbers of 64 and of 32 bits.
 pub const MOST64: u64 = 0xffff_ffff_ffff_ffff;

@@ -15,7 +15,7 @@ use Rattle.remy.proofs.Steps.{cond-elim}
 use Rattle.description.specs.declared.Description.{Description}
 use Rattle.description.specs.declared.ReadDescription.the-variants.{Given, Malformed}
 use Rattle.description.specs.Text.{textOf, InWidth}
-use Rattle.description.specs.Printing.{written}
+use Rattle.printer.specs.Printing.{written}
 use Rattle.report.specs.declared.run.Stage.{Stage}
 use Rattle.report.specs.declared.run.Stage.the-variants as Stage
 use Rattle.report.specs.declared.run.Report.{Report}

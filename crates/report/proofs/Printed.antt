@@ -6,8 +6,8 @@ use mathlib.Core.Path.{_≡_, refl, sym, ap, _∙_, subst}
 use native.Mathlib.Omega.{arith}
 use Rattle.description.specs.declared.ReadDescription.{ReadDescription}
 use Rattle.description.specs.declared.ReadDescription.the-variants.{Given, Malformed}
-use Rattle.description.specs.declared.print.Put.{Put}
-use Rattle.description.specs.declared.print.Put.the-variants as Put
+use Rattle.printer.specs.declared.Put.{Put}
+use Rattle.printer.specs.declared.Put.the-variants as Put
 use Rattle.description.specs.Text.{ReadIs, numberOf}
 use Rattle.report.specs.declared.run.Stage.{Stage}
 use Rattle.report.specs.declared.run.Stage.the-variants as Stage

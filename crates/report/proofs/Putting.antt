@@ -5,9 +5,9 @@ use mathlib.Core.List.{List, [], _∷_, _++_}
 use mathlib.Core.Path.{_≡_, refl, sym, ap, _∙_, subst}
 use lib.Dec.{leb}
 use lib.ListN.{length}
-use Rattle.description.specs.declared.print.Put.{Put}
-use Rattle.description.specs.declared.print.Put.the-variants as Put
-use Rattle.description.specs.Printing.{written, PutIs}
+use Rattle.printer.specs.declared.Put.{Put}
+use Rattle.printer.specs.declared.Put.the-variants as Put
+use Rattle.printer.specs.Printing.{written, PutIs}
 use Rattle.report.specs.declared.run.Report.{Report}
 use Rattle.report.specs.declared.run.Filled.{Filled}
 use Rattle.report.specs.Report.{Puts, puts, none, leftOf, FilledIs}

@@ -13,9 +13,9 @@ use Rattle.remy.specs.declared.simulation.Ran.{Ran}
 use Rattle.remy.specs.Tick.{tickOf}
 use Rattle.remy.specs.Run.{runOf, oneMore}
 use Rattle.remy.specs.State.{senderAt, meterAt}
-use Rattle.description.specs.declared.print.Put.{Put}
-use Rattle.description.specs.declared.print.Put.the-variants as Put
-use Rattle.description.specs.Printing.{PutIs}
+use Rattle.printer.specs.declared.Put.{Put}
+use Rattle.printer.specs.declared.Put.the-variants as Put
+use Rattle.printer.specs.Printing.{PutIs}
 use Rattle.report.specs.declared.run.Stage.{Stage}
 use Rattle.report.specs.declared.run.Stage.the-variants as Stage
 use Rattle.report.specs.declared.run.Filled.{Filled}

@@ -20,11 +20,11 @@ use Rattle.remy.specs.State.{senderAt, meterAt}
 use Rattle.remy.specs.Tick.{tickOf}
 use Rattle.remy.specs.Run.{runOf}
 use Rattle.remy.specs.History.{letterOf}
-use Rattle.description.specs.declared.print.Named.{Named}
-use Rattle.description.specs.declared.print.Named.the-variants as Named
-use Rattle.description.specs.declared.print.Measured.{Measured}
-use Rattle.description.specs.declared.print.Measured.the-variants as Measured
-use Rattle.description.specs.Printing.{recordOf, stopOf, flowOf}
+use Rattle.printer.specs.declared.Named.{Named}
+use Rattle.printer.specs.declared.Named.the-variants as Named
+use Rattle.printer.specs.declared.Measured.{Measured}
+use Rattle.printer.specs.declared.Measured.the-variants as Measured
+use Rattle.printer.specs.Printing.{recordOf, stopOf, flowOf}
 
 -- a packet by its sender and sequence
 abbrev pub namedOf : Name → Named

@@ -12,10 +12,10 @@ use Rattle.remy.specs.Run.{runOf}
 use Rattle.description.specs.declared.Description.{Description}
 use Rattle.description.specs.declared.ReadDescription.{ReadDescription}
 use Rattle.description.specs.declared.ReadDescription.the-variants.{Given, Malformed}
-use Rattle.description.specs.declared.print.Put.{Put}
-use Rattle.description.specs.declared.print.Put.the-variants as Put
+use Rattle.printer.specs.declared.Put.{Put}
+use Rattle.printer.specs.declared.Put.the-variants as Put
 use Rattle.description.specs.Text.{textOf, InWidth}
-use Rattle.description.specs.Printing.{refusedOf, written}
+use Rattle.printer.specs.Printing.{refusedOf, written}
 use Rattle.report.specs.declared.run.Stage.{Stage}
 use Rattle.report.specs.declared.run.Stage.the-variants as Stage
 use Rattle.report.specs.declared.run.Report.{Report}

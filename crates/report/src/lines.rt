@@ -1,18 +1,18 @@
 // The lines of a run, each put into a lent buffer at a position.
 ghost use mathlib.Core.Path.{_≡_};
 ghost use Rattle.remy.specs.History.{letterOf};
-ghost use Rattle.description.specs.Printing.{PutIs};
+ghost use Rattle.printer.specs.Printing.{PutIs};
 ghost use Rattle.meters.specs.Meter.{toldRead};
 ghost use Rattle.report.specs.Lines.{namedOf, rateOf, rttOf, recordLine, stopLine, flowAt};
-use description::print::Measured;
-use description::print::Named;
-use description::print::Put;
-use description::print::flow_line;
-use description::print::record_line;
-use description::print::stop_line;
 use meters::AverageFlowMeter;
 use meters::FlowRead;
 use meters::Rtt;
+use printer::Measured;
+use printer::Named;
+use printer::Put;
+use printer::flow_line;
+use printer::record_line;
+use printer::stop_line;
 use quantities::Time;
 use quantities::float::to_bits;
 use remy::Mark;

@@ -1,7 +1,7 @@
 // The report of a text: its lines, put into a lent buffer in one go or part by part.
 ghost use mathlib.Core.Path.{_≡_};
 ghost use mathlib.Core.List.{[], _∷_};
-ghost use Rattle.description.specs.Printing.{refusedOf};
+ghost use Rattle.printer.specs.Printing.{refusedOf};
 ghost use Rattle.description.specs.declared.ReadDescription.the-variants.{Given};
 ghost use Rattle.report.specs.Lines.{flowCount, flowsFrom, recordLines, endLines, runLines};
 ghost use Rattle.report.specs.Report.{firstOf, reportOf, ForText, leftOf, puts, answerOf, FilledIs, AllPut, RecordsIs};
@@ -11,8 +11,8 @@ use crate::lines::stop_bytes;
 use crate::network::network_of;
 use description::Description;
 use description::ReadDescription;
-use description::print::Put;
-use description::print::refused_line;
+use printer::Put;
+use printer::refused_line;
 use remy::Simulation;
 
 // What is printed next: a refusal, the records of so many ticks, the stop line with the last number,

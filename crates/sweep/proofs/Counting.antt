@@ -12,9 +12,9 @@ use Rattle.remy.specs.Tick.{tickOf}
 use Rattle.remy.specs.Run.{runOf}
 use Rattle.description.specs.declared.ReadDescription.{ReadDescription}
 use Rattle.description.specs.declared.ReadDescription.the-variants.{Given, Malformed}
-use Rattle.description.specs.declared.print.Put.{Put}
-use Rattle.description.specs.declared.print.Put.the-variants as Put
-use Rattle.description.specs.Printing.{refusedOf, recordOf, stopOf, written}
+use Rattle.printer.specs.declared.Put.{Put}
+use Rattle.printer.specs.declared.Put.the-variants as Put
+use Rattle.printer.specs.Printing.{refusedOf, recordOf, stopOf, written}
 use Rattle.report.specs.declared.run.Stage.the-variants as Stage
 use Rattle.report.specs.Lines.{recordLine, recordLines, stopLine, endLines, runLines}
 use Rattle.report.specs.Network.{networkOf}

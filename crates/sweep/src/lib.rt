@@ -2,7 +2,7 @@
 // `sweeps/remyline.h` is its header.
 ghost use Rattle.report.specs.Report.{ForText, leftOf, reportOf, puts};
 ghost use Rattle.sweep.specs.Sweep.{CountPut};
-use description::print::Put;
+use printer::Put;
 
 // All that is printed for a text, put into out: the count of its bytes, or 0 where out is too small.
 #[no_mangle]

@@ -2,7 +2,7 @@
 // file stdout beside src/ holds what the Rust oracle answers.
 //
 // A text in the list: its length as five decimal digits and LF, then its bytes.
-use description::print::Put;
+use printer::Put;
 ghost use Prim.Native.Nat.{_≤_};
 
 fn main() {

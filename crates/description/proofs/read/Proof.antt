@@ -2,7 +2,7 @@
 -- Assumes nothing.
 use denote.Ref.{now}
 use borrow.Author.Needs.{needs}
-use Rattle.description.specs.Reading.{pair}
+use Rattle.notation.specs.Reading.{pair}
 use Rattle.description.specs.Lines.{loadForm, courseForm, gatheredOf}
 use Rattle.description.proofs.Forms.{pair-first, pair-second, pair-found}
 use Rattle.description.proofs.Whole.{read-absent, read-long, read-given}

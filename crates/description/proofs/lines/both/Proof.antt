@@ -2,7 +2,7 @@
 -- Assumes nothing.
 use borrow.Author.Needs.{needs}
 use Rattle.description.specs.Lines.{kindForm}
-use Rattle.description.specs.Words.{lf}
+use Rattle.notation.specs.Notation.{lf}
 use Rattle.description.proofs.Forms.{pair-first, pair-second, pair-found}
 use Rattle.description.proofs.Cases.{lf-ends, colon-ends}
 use Rattle.description.proofs.lines.both.Statement.{statement}

@@ -2,9 +2,10 @@
 -- Assumes nothing.
 use native.Mathlib.Omega.{arith}
 use borrow.Author.Needs.{needs}
-use Rattle.description.specs.Reading.{decimalForm, keyed, pair}
+use Rattle.notation.specs.Reading.{decimalForm, keyed, pair}
 use Rattle.description.specs.Lines.{most64}
-use Rattle.description.specs.Words.{lf, seedKey, ticksKey}
+use Rattle.notation.specs.Notation.{lf}
+use Rattle.description.specs.Words.{seedKey, ticksKey}
 use Rattle.description.proofs.Forms.{pair-first, pair-second, pair-found}
 use Rattle.description.proofs.Cases.{lf-ends}
 use Rattle.description.proofs.lines.course_lines.Statement.{statement}

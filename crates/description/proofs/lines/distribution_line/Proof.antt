@@ -3,7 +3,7 @@
 use mathlib.Core.List.{[]}
 use borrow.Author.Needs.{needs}
 use denote.Ref.{now}
-use Rattle.description.specs.Reading.{Found, Absent, wordForm, either}
+use Rattle.notation.specs.Reading.{Found, Absent, wordForm, either}
 use Rattle.description.specs.Lines.{alwaysForm, uniformForm}
 use Rattle.description.proofs.Forms.{key-absent, key-open, key-found, either-none, either-first, either-second}
 use Rattle.description.proofs.Cases.{lf-ends, distribution-apart}

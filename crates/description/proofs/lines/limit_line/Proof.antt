@@ -3,9 +3,10 @@
 use Prim.Native.Nat.{ℕ}
 use borrow.Author.Needs.{needs}
 use denote.Ref.{now}
-use Rattle.description.specs.Reading.{Form, Absent, wordForm, decimalForm, keyed}
+use Rattle.notation.specs.Reading.{Form, Absent, wordForm, decimalForm, keyed}
 use Rattle.description.specs.Lines.{most64}
-use Rattle.description.specs.Words.{lf, limitKey, noneLine}
+use Rattle.notation.specs.Notation.{lf}
+use Rattle.description.specs.Words.{limitKey, noneLine}
 use Rattle.description.proofs.Forms.{either-none, either-first, either-second}
 use Rattle.description.proofs.Cases.{lf-ends, limit-apart}
 use Rattle.description.proofs.lines.limit_line.Statement.{statement}

@@ -1,9 +1,10 @@
 -- `description::lines::link_lines` meets its contract: four lines, one after the other.
 -- Assumes nothing.
 use borrow.Author.Needs.{needs}
-use Rattle.description.specs.Reading.{hexForm, keyed, pair}
+use Rattle.notation.specs.Reading.{hexForm, keyed, pair}
 use Rattle.description.specs.Lines.{limitForm}
-use Rattle.description.specs.Words.{lf, rateKey, lossKey}
+use Rattle.notation.specs.Notation.{lf}
+use Rattle.description.specs.Words.{rateKey, lossKey}
 use Rattle.description.proofs.Forms.{pair-first, pair-second, pair-found}
 use Rattle.description.proofs.Cases.{lf-ends}
 use Rattle.description.proofs.lines.link_lines.Statement.{statement}

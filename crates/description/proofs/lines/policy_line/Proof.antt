@@ -5,7 +5,7 @@ use mathlib.Core.Logic.{_⊎_}
 use native.Mathlib.Omega.{arith}
 use borrow.Author.Needs.{needs}
 use denote.Ref.{now}
-use Rattle.description.specs.Reading.{Form, Found, Absent, keyed, either}
+use Rattle.notation.specs.Reading.{Form, Found, Absent, keyed, either}
 use Rattle.description.specs.Lines.{heldForm, grownForm, timedForm}
 use Rattle.description.specs.Words.{policyKey}
 use Rattle.description.proofs.Forms.{either-none, either-first, either-second}

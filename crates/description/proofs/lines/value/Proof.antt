@@ -1,7 +1,7 @@
 -- `description::lines::value` meets its contract: a key, then a number.
 -- Assumes nothing.
 use borrow.Author.Needs.{needs}
-use Rattle.description.specs.Reading.{numbered}
+use Rattle.notation.specs.Reading.{numbered}
 use Rattle.description.specs.Lines.{kindForm}
 use Rattle.description.proofs.Forms.{key-absent, key-then}
 use Rattle.description.proofs.lines.value.Statement.{statement}

@@ -1,0 +1,4 @@
+pub mod Digits
+mod Words
+pub mod Written
+mod Numbers

@@ -1,0 +1,14 @@
+-- `notation::scan::led` meets its contract: each test is that of `ledByZero`.
+-- Assumes nothing.
+use borrow.Author.Tests.{eq-eqb, ne-eqb}
+use Rattle.notation.proofs.scan.led.Statement.{statement}
+use Rattle.notation.proofs.scan.led.Tie as tie
+
+returns : tie.Need-returns
+returns c = rw (eq-eqb _ _ (c .if1 .taken))
+
+returns-2 : tie.Need-returns-2
+returns-2 c = rw (ne-eqb _ _ (c .if1 .left))
+
+pub led-spec : {M : Type 1} → statement M
+led-spec = tie.close (tie.spec returns returns-2)

@@ -1,0 +1,2 @@
+mod Buffer
+mod Examples

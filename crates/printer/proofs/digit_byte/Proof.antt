@@ -1,0 +1,29 @@
+-- `printer::digit_byte` meets its contract: each arm is one of the two ranges of digits.
+-- Assumes nothing.
+use mathlib.Core.Path.{sym}
+use borrow.Author.Needs.{needs}
+use Rattle.notation.proofs.Digits.{low-digit, high-digit}
+use Rattle.printer.proofs.digit_byte.Statement.{statement}
+use Rattle.printer.proofs.digit_byte.Tie as tie
+
+cast-result : tie.Need-cast-result
+cast-result c = search needs
+
+add-result : tie.Need-add-result
+add-result c = search needs
+
+cast-result-2 : tie.Need-cast-result-2
+cast-result-2 c = search needs
+
+add-result-2 : tie.Need-add-result-2
+add-result-2 c = search needs
+
+returns : tie.Need-returns
+returns c = sym (low-digit _ (c .if1 .taken))
+
+returns-2 : tie.Need-returns-2
+returns-2 c = sym (high-digit _ (c .if1 .left))
+
+pub digit-byte-spec : {M : Type 1} → statement M
+digit-byte-spec =
+    tie.close (tie.spec cast-result add-result cast-result-2 add-result-2 returns returns-2)

@@ -1,0 +1,23 @@
+-- `printer::put_byte` meets its contract: one store.
+-- Assumes nothing.
+use native.Mathlib.Omega.{arith}
+use denote.Ref.{now}
+use borrow.Author.Needs.{needs}
+use Rattle.printer.proofs.Buffer.{written-byte}
+use Rattle.printer.proofs.put_byte.Statement.{statement}
+use Rattle.printer.proofs.put_byte.Tie as tie
+
+slice-write-out : tie.Need-slice-write-out
+slice-write-out c = search needs
+
+add-result : tie.Need-add-result
+add-result c = search needs
+
+same-length : tie.Need-same-length
+same-length c = search needs
+
+returns : tie.Need-returns
+returns c = record { small = omega arith; place = omega arith; bytes = written-byte (now (c .args .out)) _ _ (omega arith) }
+
+pub put-byte-spec : {M : Type 1} → statement M
+put-byte-spec = tie.close (tie.spec slice-write-out add-result same-length returns)

@@ -1,0 +1,220 @@
+// The printed lines, put into a lent buffer at a position.
+ghost use Prim.Native.Nat.{_+_, _-_, _≤_, _<_};
+ghost use mathlib.Core.Path.{_≡_};
+ghost use mathlib.Core.List.{[], _∷_, _++_};
+ghost use lib.ListN.{length};
+ghost use Rattle.notation.specs.Notation.{digitByte, digitsOf, hexOf, decimalOf};
+ghost use Rattle.printer.specs.Printing.{Wrote, PutIs, packetOf, measuredOf, recordOf, stopOf, refusedOf, flowOf};
+
+// The position after the line, or too little room.
+pub enum Put {
+    At(usize),
+    Full,
+}
+
+// A packet by its sender and sequence, or none.
+pub enum Named {
+    None,
+    Packet(u32, u32),
+}
+
+// A double by its bits, or none.
+pub enum Measured {
+    None,
+    Bits(u64),
+}
+
+// One byte.
+fn put_byte(out: &mut [u8], at: usize, b: u8) -> usize
+    requires { ⌜ at + 1 ≤ length (now out) ⌝ }
+    ensures { λ r. ⌜ Wrote (1) (b ∷ []) (now (out .entry)) at r (now (out .exit)) ⌝ }
+{
+    out[at] = b;
+    at + 1
+}
+
+// A word.
+fn put_word(out: &mut [u8], at: usize, w: &[u8]) -> usize
+    requires { ⌜ at + length (now w) ≤ length (now out) ⌝ }
+    ensures { λ r. ⌜ Wrote (length (now (w .entry))) (now (w .entry)) (now (out .entry)) at r (now (out .exit)) ⌝ }
+{
+    let mut i = 0;
+    let mut next = at;
+    while i < w.len() {
+        out[next] = w[i];
+        next += 1;
+        i += 1;
+    }
+    next
+}
+
+// A digit as a byte.
+fn digit_byte(d: u64) -> u8
+    requires { ⌜ d < 16 ⌝ }
+    ensures { λ r. ⌜ r ≡ digitByte d ⌝ }
+{
+    if d < 10 { 48 + d as u8 } else { 87 + d as u8 }
+}
+
+// The last k digits of n, the lowest first.
+fn put_digits(out: &mut [u8], at: usize, base: u64, k: usize, n: u64) -> usize
+    requires { ⌜ (0 < base) × (base ≤ 16) × (at + k ≤ length (now out)) ⌝ }
+    ensures { λ r. ⌜ Wrote (k) (digitsOf base k n) (now (out .entry)) at r (now (out .exit)) ⌝ }
+{
+    let mut i = k;
+    let mut rest = n;
+    while 0 < i {
+        i -= 1;
+        let b = digit_byte(rest % base);
+        let p = at + i;
+        out[p] = b;
+        rest /= base;
+    }
+    at + k
+}
+
+// How many digits n has in decimal.
+fn decimal_digits(n: u64) -> usize
+    ensures { λ r. ⌜ r ≡ length (decimalOf n) ⌝ }
+{
+    let mut k = 1;
+    let mut rest = n;
+    while 10 <= rest {
+        rest /= 10;
+        k += 1;
+    }
+    k
+}
+
+// A word and a double.
+fn put_hex(out: &mut [u8], at: usize, key: &[u8], v: u64) -> usize
+    requires { ⌜ at + (length (now key) + 16) ≤ length (now out) ⌝ }
+    ensures { λ r. ⌜ Wrote (length (now (key .entry)) + 16) (now (key .entry) ++ hexOf v) (now (out .entry)) at r (now (out .exit)) ⌝ }
+{
+    let next = put_word(out, at, key);
+    put_digits(out, next, 16, 16, v)
+}
+
+// A word and a whole number, of at most 20 digits.
+fn put_decimal(out: &mut [u8], at: usize, key: &[u8], n: u64) -> usize
+    requires { ⌜ at + (length (now key) + 20) ≤ length (now out) ⌝ }
+    ensures { λ r. ⌜ Wrote (length (now (key .entry)) + 20) (now (key .entry) ++ decimalOf n) (now (out .entry)) at r (now (out .exit)) ⌝ }
+{
+    let next = put_word(out, at, key);
+    let k = decimal_digits(n);
+    put_digits(out, next, 10, k, n)
+}
+
+// A word and one byte.
+fn put_letter(out: &mut [u8], at: usize, key: &[u8], b: u8) -> usize
+    requires { ⌜ at + (length (now key) + 1) ≤ length (now out) ⌝ }
+    ensures { λ r. ⌜ Wrote (length (now (key .entry)) + 1) (now (key .entry) ++ (b ∷ [])) (now (out .entry)) at r (now (out .exit)) ⌝ }
+{
+    let next = put_word(out, at, key);
+    put_byte(out, next, b)
+}
+
+// A word and a packet. The sequence is put where 20 digits have room, though it has at most 10.
+fn put_packet(out: &mut [u8], at: usize, key: &[u8], packet: Named) -> usize
+    requires { ⌜ at + (length (now key) + 31) ≤ length (now out) ⌝ }
+    ensures { λ r. ⌜ Wrote (length (now (key .entry)) + 21) (now (key .entry) ++ packetOf packet) (now (out .entry)) at r (now (out .exit)) ⌝ }
+{
+    match packet {
+        Named::None => put_letter(out, at, key, b'-'),
+        Named::Packet(sender, sequence) => {
+            let next = put_decimal(out, at, key, sender as u64);
+            put_decimal(out, next, b":", sequence as u64)
+        }
+    }
+}
+
+// A word and a rate or an RTT.
+fn put_measured(out: &mut [u8], at: usize, key: &[u8], value: Measured) -> usize
+    requires { ⌜ at + (length (now key) + 16) ≤ length (now out) ⌝ }
+    ensures { λ r. ⌜ Wrote (length (now (key .entry)) + 16) (now (key .entry) ++ measuredOf value) (now (out .entry)) at r (now (out .exit)) ⌝ }
+{
+    match value {
+        Measured::None => put_letter(out, at, key, b'-'),
+        Measured::Bits(v) => put_hex(out, at, key, v),
+    }
+}
+
+// How many bytes are left from a position.
+fn left(len: usize, at: usize) -> usize
+    ensures { λ r. ⌜ r ≡ len - at ⌝ }
+{
+    if at < len { len - at } else { 0 }
+}
+
+// A tick's record.
+pub fn record_line(
+    out: &mut [u8],
+    at: usize,
+    time: u64,
+    part: usize,
+    mark: u8,
+    packet: Named,
+    line: Named,
+) -> Put
+    ensures { λ r. ⌜ PutIs (recordOf time part mark packet line) (now (out .entry)) at r (now (out .exit)) ⌝ }
+{
+    if 128 <= left(out.len(), at) {
+        let a = put_hex(out, at, b"time=", time);
+        let b = put_decimal(out, a, b" part=", part as u64);
+        let c = put_letter(out, b, b" mark=", mark);
+        let d = put_packet(out, c, b" packet=", packet);
+        let e = put_packet(out, d, b" line=", line);
+        Put::At(put_byte(out, e, b'\n'))
+    } else {
+        Put::Full
+    }
+}
+
+// The end of a run.
+pub fn stop_line(out: &mut [u8], at: usize, number: u32, clock: u64) -> Put
+    ensures { λ r. ⌜ PutIs (stopOf number clock) (now (out .entry)) at r (now (out .exit)) ⌝ }
+{
+    if 128 <= left(out.len(), at) {
+        let a = put_decimal(out, at, b"stop=", number as u64);
+        let b = put_hex(out, a, b" clock=", clock);
+        Put::At(put_byte(out, b, b'\n'))
+    } else {
+        Put::Full
+    }
+}
+
+// A refused build, or a malformed description.
+pub fn refused_line(out: &mut [u8], at: usize, number: u32) -> Put
+    ensures { λ r. ⌜ PutIs (refusedOf number) (now (out .entry)) at r (now (out .exit)) ⌝ }
+{
+    if 128 <= left(out.len(), at) {
+        let a = put_decimal(out, at, b"stop=", number as u64);
+        Put::At(put_byte(out, a, b'\n'))
+    } else {
+        Put::Full
+    }
+}
+
+// A flow.
+pub fn flow_line(
+    out: &mut [u8],
+    at: usize,
+    flow: u32,
+    sent: u32,
+    counted: u32,
+    rate: Measured,
+    rtt: Measured,
+) -> Put
+    ensures { λ r. ⌜ PutIs (flowOf flow sent counted rate rtt) (now (out .entry)) at r (now (out .exit)) ⌝ }
+{
+    if 128 <= left(out.len(), at) {
+        let a = put_decimal(out, at, b"flow=", flow as u64);
+        let b = put_decimal(out, a, b" sent=", sent as u64);
+        let c = put_decimal(out, b, b" counted=", counted as u64);
+        let d = put_measured(out, c, b" rate=", rate);
+        let e = put_measured(out, d, b" rtt=", rtt);
+        Put::At(put_byte(out, e, b'\n'))
+    } else {
+        Put::Full
+    }
+}
