@@ -1,0 +1,25 @@
+-- What the four calls answer, put one into the next. Assumes nothing.
+use borrow.Author.Needs.{needs}
+use Rattle.example.proofs.flow.Statement.{statement}
+use Rattle.example.proofs.flow.Tie as tie
+
+build-requires : tie.Need-build-requires
+build-requires c κs = search needs
+
+tick-requires : tie.Need-tick-requires
+tick-requires c κs = search needs
+
+run-requires : tie.Need-run-requires
+run-requires c κs = search needs
+
+average-properties-requires : tie.Need-average-properties-requires
+average-properties-requires c κs = search needs
+
+returns : tie.Need-returns
+returns c =
+    let last = c .before .before in
+    let next = last .before .before in
+    let start = next .before .before in rw (c .average-properties .ensures, last .run .ensures .0, next .tick .ensures .0, start .build .ensures)
+
+pub flow-spec : {M : Type 1} → statement M
+flow-spec = tie.close (tie.spec build-requires tick-requires run-requires average-properties-requires returns)
