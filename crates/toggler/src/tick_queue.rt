@@ -1,7 +1,6 @@
 ghost use mathlib.Core.Path.{_≡_};
 ghost use Rattle.toggler.specs.Queue.{sooner, pickOf};
 use quantities::OptionTime;
-use quantities::Time;
 
 // A part's place in the queue: its time, or nothing.
 pub struct Queued {

@@ -1,6 +1,6 @@
 -- A packet that leaves the line leaves its rings in range. Assumes nothing.
 use mathlib.Core.Bool.{cond}
-use Prim.Native.Nat.{_-_, _≤_, _<_}
+use Prim.Native.Nat.{_≤_, _<_}
 use native.Mathlib.Omega.{arith}
 use lib.Ieee.{Float, lt}
 use Rattle.quantities.specs.declared.time.Time.{Time}
