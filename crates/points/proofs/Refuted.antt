@@ -1,4 +1,4 @@
--- Each clause of the account has a history and a last state that it alone refuses: the refutation cites that clause and no other. Assumes nothing.
+-- Each clause of the account has a history and a last state that it refuses: the refutation cites that clause and no other. Assumes nothing.
 use mathlib.Core.Path.{_≡_, refl, ap, subst}
 use mathlib.Core.Bool.{true, false, _&&_, cond, true≢false, false≢true}
 use mathlib.Core.List.{List, [], _∷_}

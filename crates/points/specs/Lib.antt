@@ -1,5 +1,5 @@
 -- Points of document 01, each file a list of claims: "Points on the grid" that are marked to be proved, the ends of the ranges, the worked example and its account, unfit states,
--- what only states made by hand or rare runs show; and for each clause of the account what it alone refuses.
+-- what only states made by hand or rare runs show; and for each clause of the account what it refuses.
 pub mod Points
 pub mod Ranges
 pub mod Worked

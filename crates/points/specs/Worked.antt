@@ -1,4 +1,4 @@
--- Document 01, "The text program": the worked example, as a network, and what its seven ticks give, as one list of claims. Then the same for a delay of 0.
+-- Document 01, "The text program": the worked example, as a network, and what its seven ticks give, as one list of claims. Then six ticks of a network with a delay of 0, as another.
 use mathlib.Core.Path.{_≡_}
 use mathlib.Core.Bool.{Bool, true, false}
 use mathlib.Core.List.{List, [], _∷_, map}

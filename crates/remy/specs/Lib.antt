@@ -1,4 +1,4 @@
--- The definitions of the simulation, in document 01's order.
+-- The definitions of the simulation and of the account of packets, each file over those above it.
 pub mod Network
 pub mod State
 pub mod Queue

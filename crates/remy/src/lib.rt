@@ -1,6 +1,7 @@
 // The Remy network and its simulation (document 01), after FlowForge's src/networks/remy.rs and
-// src/simulation.rs: the types. What build, fit, tick and run mean is in specs/, and the code that
-// equals it is in the crates `fitness`, `builder`, `advance` and `simulation`.
+// src/simulation.rs: the types, and no code. specs/ says what build, fit, tick and run mean, and the
+// account of packets, which proofs/ proves. The code that equals them is in the crates `builder`,
+// `fitness` and `simulation`; the loop of ticks is in `advance`, and what a part does in `turns`.
 pub mod network;
 pub mod simulation;
 

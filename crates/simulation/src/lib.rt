@@ -1,5 +1,6 @@
-// The simulation in code: tick, run, time and the flow read, each equal to its definition in remy.
-// `tick` and `run` also say demand 3 for every state that calls reach from a build.
+// The simulation in code: tick and run, equal to their definitions in remy; time, which is the clock;
+// and the flow read, equal to its definition in specs/Reached.antt. `tick` and `run` also say demand 3,
+// the account of packets, for every state that calls reach from a build.
 ghost use mathlib.Core.Path.{_≡_};
 ghost use Rattle.remy.specs.Tick.{tickOf};
 ghost use Rattle.remy.specs.Run.{runOf};

@@ -1,2 +1,2 @@
--- What an accepted tick keeps.
+-- What every tick keeps.
 pub mod Steady

@@ -1,5 +1,5 @@
--- A steady state: fit, and no packet on the line is due later than the clock and the delay. Every accepted tick keeps it (proofs/Steady.antt), and every build gives
--- it; fit alone is not kept. Definitions only.
+-- A steady state: fit, and no packet on the line is due later than the clock and the delay. Every tick keeps it, refused and idle ones too (proofs/Steady.antt), and
+-- every build gives it; fit alone is not kept. Definitions only.
 use mathlib.Core.Path.{_≡_}
 use mathlib.Core.Bool.{Bool, _&&_}
 use lib.Ieee.{le}
