@@ -8,7 +8,7 @@
 //                            taken as `digest` and its own digest
 //     B network seed         builds; the simulation that is returned is held from then on
 //     K, Z                   keeps the held state; returns to the one that was kept
-//     V C L W O S G M Q      put one part of the held state anew (crate held_edit)
+//     V C L W O S G M Q      put one part of the held state anew (edit.rt)
 //     T                      one tick: number, whether it moved, whether any field of the state
 //                            changed, and its record where it did not move
 //     R count                a run: how many ticks, number, clock
@@ -23,28 +23,30 @@
 // and two doubles; the policy's kind (0 held, 1 grown, 2 timed), two numbers and the gap.
 ghost use mathlib.Core.Path.{_≡_};
 ghost use lib.ListN.{length};
-use held_edit::edited;
-use held_edit::read;
-use held_edit::read::narrow;
-use held_edit::read::network_at;
-use held_print::print;
-use held_print::print::moment;
-use held_print::sink::Sink;
-use held_print::sink::decimal;
-use held_print::sink::folded;
-use held_print::sink::hex;
-use held_print::sink::printed;
-use held_print::sink::put;
-use held_print::whole;
+
+mod edit;
+mod print;
+mod read;
+mod sink;
+mod whole;
+
+use print::moment;
 use quantities::NewTime;
 use quantities::TimeSpan;
+use read::narrow;
+use read::network_at;
 use remy::Built;
 use remy::Simulation;
 use remy::Ticked;
 use script::byte_at;
 use script::next_line;
 use script::number;
-use simulation::SenderFlow;
+use sink::Sink;
+use sink::decimal;
+use sink::folded;
+use sink::hex;
+use sink::printed;
+use sink::put;
 
 // The held state, and the one that was kept.
 struct Bench {
@@ -101,12 +103,21 @@ fn command(text: &[u8], at: usize, bench: Bench) -> Bench {
 fn changed(text: &[u8], at: usize, st: Simulation) -> Simulation {
     match byte_at(text, at) {
         b'B' => built(text, at),
+        b'V' => edit::network(text, at, st),
+        b'C' => edit::head(text, at, st),
+        b'L' => edit::line(text, at, st),
+        b'W' => edit::slots(text, at, st, false),
+        b'O' => edit::slots(text, at, st, true),
+        b'S' => edit::sender(text, at, st),
+        b'G' => edit::toggler(text, at, st),
+        b'M' => edit::meter(text, at, st),
+        b'Q' => edit::queue(text, at, st),
         b'T' => ticked(st),
         b'R' => ran(text, at, st),
         b'U' => stepped(text, at, st),
         _ => {
             told(text, at, st);
-            edited(text, at, st)
+            st
         }
     }
 }
@@ -189,7 +200,7 @@ fn told(text: &[u8], at: usize, st: Simulation) {
         b'D' => summary(text, at),
         b'A' => done(print::state(printed(), st)),
         b'F' => {
-            flow(printed(), st, narrow(text, at, 0));
+            print::flow(printed(), st, narrow(text, at, 0));
         }
         b'J' => later(text, at),
         _ => {}
@@ -252,7 +263,7 @@ fn held(out: Sink, fresh: Simulation, ticks: u64) -> Sink {
     }
     let a = decimal(put(o, b"stop="), number);
     let b = moment(put(a, b" clock="), simulation::time(st));
-    flows(put(b, b"\n"), st)
+    print::flows(put(b, b"\n"), st)
 }
 
 // A state's line, or in a digest the line `digest` and its digest.
@@ -264,25 +275,4 @@ fn state_line(out: Sink, st: Simulation) -> Sink {
     let line = print::state(folded(), st);
     let b = hex(put(out, b"digest "), line.digest);
     put(b, b"\n")
-}
-
-// The flow of each sender, read at the clock.
-fn flows(out: Sink, st: Simulation) -> Sink {
-    let n = print::few(st.network.senders);
-    let mut o = out;
-    let mut i: u32 = 0;
-    while i < n {
-        o = flow(o, st, i);
-        i += 1;
-    }
-    o
-}
-
-fn flow(out: Sink, st: Simulation, i: u32) -> Sink {
-    let a = decimal(put(out, b"flow="), i as u64);
-    let b = print::totals(a, st, i);
-    match simulation::average_properties(st, i) {
-        SenderFlow::NoSender => put(b, b" -\n"),
-        SenderFlow::Of(read) => print::rates(b, read),
-    }
 }

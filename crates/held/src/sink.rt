@@ -2,13 +2,13 @@
 ghost use Prim.Native.Nat.{_<_};
 use quantities::float::to_bits;
 
-pub struct Sink {
+pub(crate) struct Sink {
     pub shown: bool,
     pub digest: u64,
 }
 
 // Standard output.
-pub fn printed() -> Sink {
+pub(crate) fn printed() -> Sink {
     Sink {
         shown: true,
         digest: 0,
@@ -16,14 +16,14 @@ pub fn printed() -> Sink {
 }
 
 // A digest of nothing yet.
-pub fn folded() -> Sink {
+pub(crate) fn folded() -> Sink {
     Sink {
         shown: false,
         digest: 0xcbf2_9ce4_8422_2325,
     }
 }
 
-pub fn put(out: Sink, text: &[u8]) -> Sink {
+pub(crate) fn put(out: Sink, text: &[u8]) -> Sink {
     if out.shown {
         show(text);
         return out;
@@ -42,22 +42,26 @@ fn fold(digest: u64, text: &[u8]) -> u64 {
     let mut h = digest;
     let mut i: usize = 0;
     while i < text.len() {
-        h = step(h, text[i]);
+        h = step_byte(h, text[i]);
         i += 1;
     }
     h
 }
 
-// The digest with a byte more: their exclusive or, times 2^40 + 435, in 64 bits.
-fn step(digest: u64, byte: u8) -> u64 {
-    let x = digest ^ byte as u64;
+fn step_byte(digest: u64, b: u8) -> u64 {
+    step(digest, b as u64)
+}
+
+// The digest with a byte or a word more: their exclusive or, times 2^40 + 435, in 64 bits.
+pub(crate) fn step(digest: u64, word: u64) -> u64 {
+    let x = digest ^ word;
     let low = x % 4294967296 * 435;
     let high = x / 4294967296 % 4294967296 * 435 + low / 4294967296 + x % 16777216 * 256;
     high % 4294967296 * 4294967296 + low % 4294967296
 }
 
 // A whole number in decimal.
-pub fn decimal(out: Sink, n: u64) -> Sink {
+pub(crate) fn decimal(out: Sink, n: u64) -> Sink {
     let mut text = [0u8; 20];
     let k = io::decimal(n, &mut text);
     put(out, &text[..k])
@@ -68,7 +72,7 @@ pub(crate) fn double(out: Sink, x: f64) -> Sink {
     hex(out, to_bits(x))
 }
 
-pub fn hex(out: Sink, n: u64) -> Sink {
+pub(crate) fn hex(out: Sink, n: u64) -> Sink {
     let mut text = [0u8; 16];
     let k = io::hex(n, 16, &mut text);
     put(out, &text[..k])

@@ -1,8 +1,8 @@
 -- The loop counts up to n, at most 16. Assumes nothing.
 use Prim.Native.Nat.{_-_, _≤_}
 use borrow.Author.Needs.{needs}
-use Rattle.held_print.proofs.print.parts.Statement.{statement}
-use Rattle.held_print.proofs.print.parts.Tie as tie
+use Rattle.held.proofs.print.parts.Statement.{statement}
+use Rattle.held.proofs.print.parts.Tie as tie
 
 abbrev Inv-loop : tie.InvT-loop
 Inv-loop n senders togglers meters o₀ i₀ o i = i ≤ n

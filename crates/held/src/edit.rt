@@ -1,6 +1,7 @@
 // A simulation with one of its parts anew, from the fields of a line. An index out of range changes
 // nothing.
-ghost use Prim.Native.Nat.{_<_};
+ghost use Prim.Native.Nat.{_<_, _≤_};
+use crate::print::slot;
 use crate::read::double;
 use crate::read::moment;
 use crate::read::narrow;
@@ -37,17 +38,11 @@ pub(crate) fn network(text: &[u8], at: usize, st: Simulation) -> Simulation {
 // C clock next
 pub(crate) fn head(text: &[u8], at: usize, st: Simulation) -> Simulation {
     let mut out = st;
-    let head = head_at(text, at);
+    let next = next_at(text, at, 1);
+    let clock = moment(text, at, 0);
+    let head = Head { clock, next };
     out.head = head;
     out
-}
-
-fn head_at(text: &[u8], at: usize) -> Head {
-    let next = next_at(text, at, 1);
-    Head {
-        clock: moment(text, at, 0),
-        next,
-    }
 }
 
 fn next_at(text: &[u8], at: usize, k: usize) -> Next {
@@ -61,30 +56,24 @@ fn next_at(text: &[u8], at: usize, k: usize) -> Next {
 // L earliest-start bits, start and count of those that wait, start and count of those on the line
 pub(crate) fn line(text: &[u8], at: usize, st: Simulation) -> Simulation {
     let mut out = st;
-    let line = line_at(text, at, out.line.rng);
-    out.line = line;
-    out
-}
-
-fn line_at(text: &[u8], at: usize, rng: Rng) -> Line {
-    let waiting = ring_at(text, at, 2);
-    let on_line = ring_at(text, at, 4);
-    Line {
+    let rng = out.line.rng;
+    let waiting = Ring {
+        start: size(text, at, 2),
+        count: size(text, at, 3),
+    };
+    let on_line = Ring {
+        start: size(text, at, 4),
+        count: size(text, at, 5),
+    };
+    let line = Line {
         earliest_transmit: moment(text, at, 0),
         buffer_contains: Information(number(text, at, 1)),
         waiting,
         on_line,
         rng,
-    }
-}
-
-fn ring_at(text: &[u8], at: usize, k: usize) -> Ring
-    requires { ⌜ k < 16 ⌝ }
-{
-    Ring {
-        start: size(text, at, k),
-        count: size(text, at, k + 1),
-    }
+    };
+    out.line = line;
+    out
 }
 
 fn transit_at(text: &[u8], at: usize) -> Transit {
@@ -99,16 +88,25 @@ fn transit_at(text: &[u8], at: usize) -> Transit {
     }
 }
 
+fn at_most_512(n: usize) -> usize
+    ensures { λ r. ⌜ r ≤ 512 ⌝ }
+{
+    if n < 512 {
+        return n;
+    }
+    512
+}
+
 // O slot count sender sequence sent-time due: so many slots of those on the line
 // W slot count sender sequence sent-time: so many slots of those that wait
 pub(crate) fn slots(text: &[u8], at: usize, st: Simulation, on_line: bool) -> Simulation {
     let mut out = st;
     let start = size(text, at, 0);
-    let n = size(text, at, 1);
+    let n = at_most_512(size(text, at, 1));
     let x = transit_at(text, at);
     let mut k: usize = 0;
     while k < n {
-        out = with_slot(out, (start + k) % 512, x, on_line);
+        out = with_slot(out, slot(start, k), x, on_line);
         k += 1;
     }
     out
@@ -133,19 +131,16 @@ pub(crate) fn sender(text: &[u8], at: usize, st: Simulation) -> Simulation {
     let i = size(text, at, 0);
     if i < 16 {
         let old = out.senders[i];
-        let sender = sender_at(text, at, old.rng);
+        let rng = old.rng;
+        let state = state_at(text, at);
+        let sender = LossySender {
+            packets_sent: narrow(text, at, 1),
+            state,
+            rng,
+        };
         out.senders[i] = sender;
     }
     out
-}
-
-fn sender_at(text: &[u8], at: usize, rng: Rng) -> LossySender {
-    let state = state_at(text, at);
-    LossySender {
-        packets_sent: narrow(text, at, 1),
-        state,
-        rng,
-    }
 }
 
 fn state_at(text: &[u8], at: usize) -> SenderState {
@@ -166,18 +161,14 @@ pub(crate) fn toggler(text: &[u8], at: usize, st: Simulation) -> Simulation {
     let mut out = st;
     let i = size(text, at, 0);
     if i < 16 {
-        let toggler = toggler_at(text, at);
+        let toggler = Toggler {
+            enabled: number(text, at, 1) != 0,
+            next_toggle: moment(text, at, 2),
+            rng: words_at(text, at),
+        };
         out.togglers[i] = toggler;
     }
     out
-}
-
-fn toggler_at(text: &[u8], at: usize) -> Toggler {
-    Toggler {
-        enabled: number(text, at, 1) != 0,
-        next_toggle: moment(text, at, 2),
-        rng: words_at(text, at),
-    }
 }
 
 fn words_at(text: &[u8], at: usize) -> Rng {
@@ -194,21 +185,17 @@ pub(crate) fn meter(text: &[u8], at: usize, st: Simulation) -> Simulation {
     let mut out = st;
     let i = size(text, at, 0);
     if i < 16 {
-        let meter = meter_at(text, at);
+        let current_start = time_if_any(text, at, 2);
+        let meter = AverageFlowMeter {
+            total_time: TimeSpan(double(text, at, 1)),
+            current_start,
+            total: Information(number(text, at, 3)),
+            records: narrow(text, at, 4),
+            rtt_sum: TimeSpan(double(text, at, 5)),
+        };
         out.meters[i] = meter;
     }
     out
-}
-
-fn meter_at(text: &[u8], at: usize) -> AverageFlowMeter {
-    let current_start = time_if_any(text, at, 2);
-    AverageFlowMeter {
-        total_time: TimeSpan(double(text, at, 1)),
-        current_start,
-        total: Information(number(text, at, 3)),
-        records: narrow(text, at, 4),
-        rtt_sum: TimeSpan(double(text, at, 5)),
-    }
 }
 
 // Q place time

@@ -1,8 +1,8 @@
 -- The loop counts up to 2n, at most 32. Assumes nothing.
 use Prim.Native.Nat.{_+_, _*_, _-_, _≤_}
 use borrow.Author.Needs.{needs}
-use Rattle.held_print.proofs.print.queue.Statement.{statement}
-use Rattle.held_print.proofs.print.queue.Tie as tie
+use Rattle.held.proofs.print.queue.Statement.{statement}
+use Rattle.held.proofs.print.queue.Tie as tie
 
 abbrev Inv-loop : tie.InvT-loop
 Inv-loop n places last o₀ k₀ o k = k ≤ 33

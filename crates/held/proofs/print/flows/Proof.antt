@@ -1,8 +1,8 @@
 -- The loop counts up to the senders. Assumes nothing.
 use Prim.Native.Nat.{_-_, _≤_}
 use borrow.Author.Needs.{needs}
-use Rattle.held.proofs.flows.Statement.{statement}
-use Rattle.held.proofs.flows.Tie as tie
+use Rattle.held.proofs.print.flows.Statement.{statement}
+use Rattle.held.proofs.print.flows.Tie as tie
 
 abbrev Inv-loop : tie.InvT-loop
 Inv-loop st n o₀ i₀ o i = (i ≤ n) × (n ≤ 16)

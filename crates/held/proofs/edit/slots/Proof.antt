@@ -1,11 +1,11 @@
--- The loop counts up to n, and a slot is a remainder by 512. Assumes nothing.
+-- The loop counts up to n, and a slot is below 512. Assumes nothing.
 use Prim.Native.Nat.{_-_, _≤_}
 use borrow.Author.Needs.{needs}
-use Rattle.held_edit.proofs.edit.slots.Statement.{statement}
-use Rattle.held_edit.proofs.edit.slots.Tie as tie
+use Rattle.held.proofs.edit.slots.Statement.{statement}
+use Rattle.held.proofs.edit.slots.Tie as tie
 
 abbrev Inv-loop : tie.InvT-loop
-Inv-loop text at on-line out₀ start n x k₀ out k = k ≤ n
+Inv-loop text at on-line out₀ start n x k₀ out k = k ≤ 512
 
 abbrev μ-loop : tie.MeasureT-loop
 μ-loop text at on-line out₀ start n x k₀ out k = n - k
@@ -16,14 +16,17 @@ size-requires c κs = search needs
 size-requires-2 : tie.Need-size-requires-2 Inv-loop μ-loop
 size-requires-2 c κs = search needs
 
+at-most-512-requires : tie.Need-at-most-512-requires Inv-loop μ-loop
+at-most-512-requires c κs = search needs
+
 transit-at-requires : tie.Need-transit-at-requires Inv-loop μ-loop
 transit-at-requires c κs = search needs
 
 loop-holds : tie.Need-loop-holds Inv-loop μ-loop
 loop-holds c = search needs
 
-add-with-slot : tie.Need-add-with-slot Inv-loop μ-loop
-add-with-slot c = search needs
+slot-requires : tie.Need-slot-requires Inv-loop μ-loop
+slot-requires c κs = search needs
 
 with-slot-requires : tie.Need-with-slot-requires Inv-loop μ-loop
 with-slot-requires c κs = search needs
@@ -48,9 +51,10 @@ slots-spec =
     μ-loop
     size-requires
     size-requires-2
+    at-most-512-requires
     transit-at-requires
     loop-holds
-    add-with-slot
+    slot-requires
     with-slot-requires
     add-k
     loop-less

@@ -1,8 +1,8 @@
 -- The loop counts up to the count, and a slot is below 512. Assumes nothing.
 use Prim.Native.Nat.{_-_, _≤_}
 use borrow.Author.Needs.{needs}
-use Rattle.held_print.proofs.print.packets.Statement.{statement}
-use Rattle.held_print.proofs.print.packets.Tie as tie
+use Rattle.held.proofs.print.packets.Statement.{statement}
+use Rattle.held.proofs.print.packets.Tie as tie
 
 abbrev Inv-loop : tie.InvT-loop
 Inv-loop st ring on-line o₀ k₀ o k = k ≤ ring .count

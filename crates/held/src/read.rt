@@ -13,7 +13,7 @@ use sender::Policy;
 
 // The network of the fields 0 to 15: delay, rate, loss, limit, bits, senders; on and off, each a kind
 // and two doubles; the policy's kind, two numbers and the gap.
-pub fn network_at(text: &[u8], at: usize) -> RemyNetwork {
+pub(crate) fn network_at(text: &[u8], at: usize) -> RemyNetwork {
     RemyNetwork {
         delay: double(text, at, 0),
         rate: double(text, at, 1),
@@ -65,21 +65,19 @@ pub(crate) fn time_if_any(text: &[u8], at: usize, k: usize) -> OptionTime {
     }
 }
 
-pub fn moment(text: &[u8], at: usize, k: usize) -> Time {
+pub(crate) fn moment(text: &[u8], at: usize, k: usize) -> Time {
     Time(TimeSpan(double(text, at, k)))
 }
 
-pub fn double(text: &[u8], at: usize, k: usize) -> f64 {
+pub(crate) fn double(text: &[u8], at: usize, k: usize) -> f64 {
     from_bits(number(text, at, k))
 }
 
 // The last 32 bits of a field.
-pub fn narrow(text: &[u8], at: usize, k: usize) -> u32 {
+pub(crate) fn narrow(text: &[u8], at: usize, k: usize) -> u32 {
     (number(text, at, k) % 4294967296) as u32
 }
 
-pub(crate) fn size(text: &[u8], at: usize, k: usize) -> usize
-    ensures { λ r. ⌜ r < 4294967296 ⌝ }
-{
+pub(crate) fn size(text: &[u8], at: usize, k: usize) -> usize {
     (number(text, at, k) % 4294967296) as usize
 }

@@ -4,7 +4,6 @@ use crate::sink::Sink;
 use crate::sink::decimal;
 use crate::sink::double;
 use crate::sink::put;
-use link::Line;
 use link::Packet;
 use link::Ring;
 use link::Transit;
@@ -15,7 +14,6 @@ use meters::Rtt;
 use quantities::OptionTime;
 use quantities::Time;
 use rand::Rng;
-use remy::Head;
 use remy::Mark;
 use remy::Name;
 use remy::Next;
@@ -23,15 +21,15 @@ use remy::Simulation;
 use remy::TickRecord;
 use sender::LossySender;
 use sender::SenderState;
+use simulation::SenderFlow;
 use toggler::Queued;
 use toggler::Toggler;
 
-pub fn record(out: Sink, note: TickRecord) -> Sink {
+pub(crate) fn record(out: Sink, note: TickRecord) -> Sink {
     let a = moment(put(out, b"time="), note.time);
     let b = decimal(put(a, b" part="), note.part as u64);
-    let mark = note.mark;
-    let text = [letter(mark)];
-    let c = put(put(b, b" mark="), &text);
+    let marked = note.mark;
+    let c = mark(put(b, b" mark="), marked);
     let packet = note.packet;
     let d = name(put(c, b" packet="), packet);
     let started = note.started;
@@ -39,18 +37,18 @@ pub fn record(out: Sink, note: TickRecord) -> Sink {
     put(e, b"\n")
 }
 
-fn letter(mark: Mark) -> u8 {
+fn mark(out: Sink, mark: Mark) -> Sink {
     match mark {
-        Mark::None => b'-',
-        Mark::Enabled => b'E',
-        Mark::Disabled => b'D',
-        Mark::Timer => b'T',
-        Mark::Sent => b'S',
-        Mark::Full => b'F',
-        Mark::Lost => b'L',
-        Mark::Counted => b'C',
-        Mark::Old => b'O',
-        Mark::Ignored => b'I',
+        Mark::None => put(out, b"-"),
+        Mark::Enabled => put(out, b"E"),
+        Mark::Disabled => put(out, b"D"),
+        Mark::Timer => put(out, b"T"),
+        Mark::Sent => put(out, b"S"),
+        Mark::Full => put(out, b"F"),
+        Mark::Lost => put(out, b"L"),
+        Mark::Counted => put(out, b"C"),
+        Mark::Old => put(out, b"O"),
+        Mark::Ignored => put(out, b"I"),
     }
 }
 
@@ -61,47 +59,31 @@ fn name(out: Sink, name: Name) -> Sink {
     }
 }
 
-pub(crate) fn pair(out: Sink, a: u64, b: u64) -> Sink {
+fn pair(out: Sink, a: u64, b: u64) -> Sink {
     decimal(put(decimal(out, a), b":"), b)
 }
 
-// The held state, with no line end: the packets of its rings, and the parts of its senders.
-pub fn state(out: Sink, st: Simulation) -> Sink {
-    let line = st.line;
-    let waiting = line.waiting;
-    let on_line = line.on_line;
-    fields(out, st, waiting, on_line, st.network.senders)
-}
-
-// The held state with the packets of two rings and the parts of so many senders.
-pub(crate) fn fields(
-    out: Sink,
-    st: Simulation,
-    waiting: Ring,
-    on_line: Ring,
-    senders: u32,
-) -> Sink {
+// The whole held state, with no line end.
+pub(crate) fn state(out: Sink, st: Simulation) -> Sink {
     let head = st.head;
     let line = st.line;
-    let a = front(out, head, line);
-    let b = packets(put(a, b" waiting="), st, waiting, false);
-    let c = packets(put(b, b" line="), st, on_line, true);
-    let d = words(put(c, b" link="), line.rng);
-    let n = few(senders) as usize;
-    let senders = st.senders;
-    let togglers = st.togglers;
-    let meters = st.meters;
-    let places = st.queue;
-    let e = parts(d, senders, togglers, meters, n);
-    queue(put(e, b" queue="), places, n)
-}
-
-fn front(out: Sink, head: Head, line: Line) -> Sink {
     let part = head.next;
     let a = moment(put(out, b"state clock="), head.clock);
     let b = next(put(a, b" next="), part);
     let c = moment(put(b, b" earliest="), line.earliest_transmit);
-    decimal(put(c, b" bits="), line.buffer_contains.0)
+    let d = decimal(put(c, b" bits="), line.buffer_contains.0);
+    let waiting = line.waiting;
+    let e = packets(put(d, b" waiting="), st, waiting, false);
+    let on_line = line.on_line;
+    let f = packets(put(e, b" line="), st, on_line, true);
+    let g = words(put(f, b" link="), line.rng);
+    let n = few(st.network.senders) as usize;
+    let senders = st.senders;
+    let togglers = st.togglers;
+    let meters = st.meters;
+    let places = st.queue;
+    let h = parts(g, senders, togglers, meters, n);
+    queue(put(h, b" queue="), places, n)
 }
 
 fn next(out: Sink, next: Next) -> Sink {
@@ -155,7 +137,7 @@ fn separate(out: Sink, k: usize) -> Sink {
     put(out, b",")
 }
 
-fn slot(start: usize, k: usize) -> usize
+pub(crate) fn slot(start: usize, k: usize) -> usize
     ensures { λ r. ⌜ r < 512 ⌝ }
 {
     if start < 512 {
@@ -166,8 +148,7 @@ fn slot(start: usize, k: usize) -> usize
     0
 }
 
-// How many senders are printed, at most 16.
-pub fn few(senders: u32) -> u32
+fn few(senders: u32) -> u32
     ensures { λ r. ⌜ r ≤ 16 ⌝ }
 {
     if senders < 16 {
@@ -256,24 +237,39 @@ fn queue(out: Sink, places: [Queued; 33], n: usize) -> Sink
     o
 }
 
-// What a sender sent, and how many of its packets were counted.
-pub fn totals(out: Sink, st: Simulation, i: u32) -> Sink {
+// The flow of each sender, read at the clock.
+pub(crate) fn flows(out: Sink, st: Simulation) -> Sink {
+    let n = few(st.network.senders);
+    let mut o = out;
+    let mut i: u32 = 0;
+    while i < n {
+        o = flow(o, st, i);
+        i += 1;
+    }
+    o
+}
+
+pub(crate) fn flow(out: Sink, st: Simulation, i: u32) -> Sink {
+    let a = decimal(put(out, b"flow="), i as u64);
+    let b = totals(a, st, i);
+    match simulation::average_properties(st, i) {
+        SenderFlow::NoSender => put(b, b" -\n"),
+        SenderFlow::Of(read) => rates(b, read),
+    }
+}
+
+fn totals(out: Sink, st: Simulation, i: u32) -> Sink {
     if i < 16 {
         let k = i as usize;
         let s = st.senders[k];
         let m = st.meters[k];
-        return sent_and_counted(out, s.packets_sent, m.records);
+        let a = decimal(put(out, b" sent="), s.packets_sent as u64);
+        return decimal(put(a, b" counted="), m.records as u64);
     }
     out
 }
 
-fn sent_and_counted(out: Sink, sent: u32, counted: u32) -> Sink {
-    let a = decimal(put(out, b" sent="), sent as u64);
-    decimal(put(a, b" counted="), counted as u64)
-}
-
-// The rate and the mean round trip of a flow.
-pub fn rates(out: Sink, read: FlowRead) -> Sink {
+fn rates(out: Sink, read: FlowRead) -> Sink {
     match read {
         FlowRead::Properties(flow) => properties(out, flow),
         FlowRead::NeverActive => put(out, b" rate=- rtt=-\n"),
@@ -300,13 +296,13 @@ fn words(out: Sink, rng: Rng) -> Sink {
     pair(put(pair(out, w[0], w[1]), b":"), w[2], w[3])
 }
 
-fn maybe(out: Sink, time: OptionTime) -> Sink {
+pub(crate) fn maybe(out: Sink, time: OptionTime) -> Sink {
     match time {
         OptionTime::None => put(out, b"-"),
         OptionTime::Some(t) => moment(out, t),
     }
 }
 
-pub fn moment(out: Sink, time: Time) -> Sink {
+pub(crate) fn moment(out: Sink, time: Time) -> Sink {
     double(out, time.0.0)
 }
