@@ -244,7 +244,8 @@ anotherNetwork = record { network = networkWith (power 0) (Limit.Bits 32); past 
 abbrev pub unrecorded : Case
 unrecorded =
     caseOf
-    (at (power 0) 1 Mark.Sent (its 1) none
+    (at (power 0) 2 Mark.Enabled none none
+    ∷ at (power 0) 1 Mark.Sent (its 1) none
     ∷ at (power 0) 0 Mark.None none (its 1)
     ∷ at (power 0) 1 Mark.Sent (its 2) none
     ∷ at (power 0) 1 Mark.Sent (its 3) none
