@@ -42,14 +42,15 @@ use Rattle.remy.specs.declared.simulation.Name.the-variants as Name
 use Rattle.remy.specs.State.{link, sender, toggler, noPacket, noTransit, noSender, noToggler, noMeter, senderAt, togglerAt, meterAt, frontOf, firstOf, withLine, withOnLine, withSender, withToggler}
 use Rattle.remy.specs.Queue.{ownTime, requeue, headOf, picked}
 use Rattle.remy.specs.Tick.{Acted, named, recordAt, arriveWith, arrives, timerWith, sendWith, senderWith, senderActs, togglerWith, togglerActs, switches, leftRecord, leftMessages, begunName, putOnLine, heardMark, returnWith, linkWith, linkActs, actsOf, moves, stops, deliver, deliverAll, pickAgain, outcomeWith, outcomeOf}
-use Rattle.turns.proofs.Picks.{picks}
+use Rattle.queueing.proofs.Picks.{picks}
 use Rattle.turns.specs.declared.Hearing.{Hearing}
 use Rattle.turns.specs.declared.LinkActed.{LinkActed}
 use Rattle.turns.specs.declared.SenderActed.{SenderActed}
 use Rattle.turns.specs.declared.Arriving.{Arriving}
 use Rattle.turns.specs.declared.Sending.{Sending}
 use Rattle.turns.specs.declared.Sending.the-variants as Sending
-use Rattle.turns.specs.Turns.{linkActed, onLineAt, heardWith, heardBy, linkNote, linkSlot, senderSlot, placeAfterPick, togglerSlot, togglerNote, switchedTo, senderActed, timerTook, sendTook, senderTook, arrivedWith, arrivedAt, waitingAt, senderNote}
+use Rattle.queueing.specs.Queueing.{linkSlot, senderSlot, placeAfterPick, togglerSlot}
+use Rattle.turns.specs.Turns.{linkActed, onLineAt, heardWith, heardBy, linkNote, togglerNote, switchedTo, senderActed, timerTook, sendTook, senderTook, arrivedWith, arrivedAt, waitingAt, senderNote}
 
 -- ---- the pick, as it is stored
 

@@ -36,15 +36,16 @@ use Rattle.remy.specs.Queue.{headOf}
 use Rattle.remy.specs.Fit.{fit}
 use Rattle.remy.specs.Tick.{moves, outcomeOf, unmoved, ticked, tickOf}
 use Rattle.remy.proofs.Steps.{cond-elim}
-use Rattle.turns.specs.declared.Now.{Now}
-use Rattle.turns.specs.declared.Now.the-variants as Now
+use Rattle.queueing.specs.declared.Now.{Now}
+use Rattle.queueing.specs.declared.Now.the-variants as Now
 use Rattle.turns.specs.declared.LinkActed.{LinkActed}
 use Rattle.turns.specs.declared.Hearing.{Hearing}
 use Rattle.turns.specs.declared.Sending.{Sending}
 use Rattle.turns.specs.declared.Sending.the-variants as Sending
 use Rattle.turns.specs.declared.SenderActed.{SenderActed}
 use Rattle.turns.specs.declared.Arriving.{Arriving}
-use Rattle.turns.specs.Turns.{nowOf, ownerOf, linkActed, onLineAt, heardBy, linkNote, linkSlot, senderSlot, placeAfterPick, togglerSlot, togglerNote, switchedTo, senderActed, arrivedAt, waitingAt, senderNote}
+use Rattle.queueing.specs.Queueing.{nowOf, linkSlot, senderSlot, placeAfterPick, togglerSlot}
+use Rattle.turns.specs.Turns.{ownerOf, linkActed, onLineAt, heardBy, linkNote, togglerNote, switchedTo, senderActed, arrivedAt, waitingAt, senderNote}
 use Rattle.turns.proofs.InRange.{on-line-range}
 use Rattle.advance.proofs.Arms.{link-state, sender-state, toggler-state, link-moves, sender-moves, toggler-moves}
 use Rattle.advance.proofs.Ticks.{TickAs, now-tick, InPlace, in-place, own-packet}

@@ -33,11 +33,12 @@ use Rattle.remy.proofs.Networks.{few-senders, few-bits}
 use Rattle.remy.proofs.Front.{accepted, front-sender}
 use Rattle.remy.proofs.Fresh.{role-elim}
 use Rattle.steady.proofs.Steady.{Steady, tick-steady}
-use Rattle.turns.specs.declared.Now.{Now}
-use Rattle.turns.specs.declared.Now.the-variants as Now
+use Rattle.queueing.specs.declared.Now.{Now}
+use Rattle.queueing.specs.declared.Now.the-variants as Now
 use Rattle.turns.specs.declared.LinkActed.{LinkActed}
-use Rattle.turns.proofs.Picks.{part-inside}
-use Rattle.turns.specs.Turns.{nowRole, nowNext, nowOf, ownerOf, linkActed}
+use Rattle.queueing.proofs.Picks.{part-inside}
+use Rattle.queueing.specs.Queueing.{nowRole, nowNext, nowOf}
+use Rattle.turns.specs.Turns.{ownerOf, linkActed}
 use Rattle.advance.specs.declared.Advanced.{Advanced}
 use Rattle.advance.specs.Advance.{advanceOf}
 

@@ -2,9 +2,9 @@
 ghost use mathlib.Core.Path.{_≡_};
 ghost use Rattle.remy.specs.Tick.{emptyRecord};
 ghost use Rattle.advance.specs.Advance.{advanceOf};
+use queueing::Now;
 use remy::Simulation;
 use remy::TickRecord;
-use turns::Now;
 
 // What a number of ticks gives: how many were done, the last number, the last record, and the
 // simulation.
@@ -30,7 +30,7 @@ pub fn advance(simulation: Simulation, n: u32) -> Advanced
         let head = st.head;
         let line = st.line;
         let clock = head.clock;
-        let now = turns::whose_turn(fit, head, network.senders);
+        let now = queueing::whose_turn(fit, head, network.senders);
         match now {
             Now::Stop(number) => {
                 let empty = turns::empty_record();
@@ -46,105 +46,116 @@ pub fn advance(simulation: Simulation, n: u32) -> Advanced
                 let first_at = line.waiting.start;
                 let front = st.on_line[front_at];
                 let first = st.waiting[first_at];
-                let c = turns::link_acts(network, line, clock, front, first);
-                if c.number != 0 {
+                let acts = turns::link_acts(network, line, clock, front, first);
+                if acts.number != 0 {
                     let empty = turns::empty_record();
                     return Advanced {
                         done,
-                        number: c.number,
+                        number: acts.number,
                         note: empty,
                         simulation: st,
                     };
                 }
-                let k = turns::owner(front.packet);
-                let sender = st.senders[k];
-                let meter = st.meters[k];
-                let left = c.left;
-                let begun = c.begun;
-                let after = c.line;
-                let at = c.at;
-                let h = turns::hear(network, clock, left, sender, meter);
-                let heard = h.sender;
-                let counted = h.meter;
+                let receiver = turns::owner(front.packet);
+                let sender = st.senders[receiver];
+                let meter = st.meters[receiver];
+                let left = acts.left;
+                let begun = acts.begun;
+                let after = acts.line;
+                let at = acts.at;
+                let hearing = turns::hear(network, clock, left, sender, meter);
+                let heard = hearing.sender;
+                let counted = hearing.meter;
                 let old = st.on_line[at];
                 let new = turns::on_line_at(begun, old);
                 st.line = after;
                 st.on_line[at] = new;
-                st.senders[k] = heard;
-                st.meters[k] = counted;
+                st.senders[receiver] = heard;
+                st.meters[receiver] = counted;
                 let front_after_at = after.on_line.start;
                 let front_after = st.on_line[front_after_at];
                 let old_link = st.queue[0];
-                let link_slot = turns::link_slot(true, after, clock, front_after, old_link);
+                let link_slot = queueing::link_slot(true, after, clock, front_after, old_link);
                 st.queue[0] = link_slot;
-                let sender_after = st.senders[k];
-                let place = 1 + 2 * k;
+                let sender_after = st.senders[receiver];
+                let place = 1 + 2 * receiver;
                 let old_sender = st.queue[place];
-                let sender_slot = turns::sender_slot(h.heard, sender_after, clock, old_sender);
+                let sender_slot = queueing::sender_slot(
+                    hearing.heard,
+                    sender_after,
+                    clock,
+                    old_sender,
+                );
                 st.queue[place] = sender_slot;
                 let queue = st.queue;
                 let best = toggler::tick_queue::pick(queue);
                 let part = best.part;
                 let old_best = st.queue[part];
-                let cleared = turns::place_after(best, old_best);
-                let picked = turns::head_of(best);
+                let cleared = queueing::place_after(best, old_best);
+                let picked = queueing::head_of(best);
                 st.head = picked;
                 st.queue[part] = cleared;
-                let mark = h.mark;
+                let mark = hearing.mark;
                 note = turns::link_note(clock, left, begun, mark);
                 done += 1;
             }
             Now::Sender(i) => {
                 let sender = st.senders[i];
-                let a = turns::sender_acts(network, clock, sender, i);
-                if a.number != 0 {
+                let acts = turns::sender_acts(network, clock, sender, i);
+                if acts.number != 0 {
                     let empty = turns::empty_record();
                     return Advanced {
                         done,
-                        number: a.number,
+                        number: acts.number,
                         note: empty,
                         simulation: st,
                     };
                 }
-                let sending = a.sending;
-                let sent = a.sender;
+                let sending = acts.sending;
+                let sent = acts.sender;
                 let limit = network.limit;
-                let b = turns::arrive(limit, network.bits, line, sending);
-                if b.number != 0 {
+                let arrival = turns::arrive(limit, network.bits, line, sending);
+                if arrival.number != 0 {
                     let empty = turns::empty_record();
                     return Advanced {
                         done,
-                        number: b.number,
+                        number: arrival.number,
                         note: empty,
                         simulation: st,
                     };
                 }
-                let after = b.line;
-                let at = b.at;
+                let after = arrival.line;
+                let at = arrival.at;
                 let old = st.waiting[at];
-                let new = turns::waiting_at(b.admitted, sending, old);
+                let new = turns::waiting_at(arrival.admitted, sending, old);
                 st.line = after;
                 st.waiting[at] = new;
                 st.senders[i] = sent;
                 let sender_after = st.senders[i];
                 let place = 1 + 2 * i;
                 let old_sender = st.queue[place];
-                let sender_slot = turns::sender_slot(true, sender_after, clock, old_sender);
+                let sender_slot = queueing::sender_slot(true, sender_after, clock, old_sender);
                 st.queue[place] = sender_slot;
                 let front_after_at = after.on_line.start;
                 let front_after = st.on_line[front_after_at];
                 let old_link = st.queue[0];
-                let link_slot = turns::link_slot(b.arrives, after, clock, front_after, old_link);
+                let link_slot = queueing::link_slot(
+                    arrival.arrives,
+                    after,
+                    clock,
+                    front_after,
+                    old_link,
+                );
                 st.queue[0] = link_slot;
                 let queue = st.queue;
                 let best = toggler::tick_queue::pick(queue);
                 let part = best.part;
                 let old_best = st.queue[part];
-                let cleared = turns::place_after(best, old_best);
-                let picked = turns::head_of(best);
+                let cleared = queueing::place_after(best, old_best);
+                let picked = queueing::head_of(best);
                 st.head = picked;
                 st.queue[part] = cleared;
-                let mark = b.mark;
+                let mark = arrival.mark;
                 note = turns::sender_note(clock, i, sending, mark);
                 done += 1;
             }
@@ -152,41 +163,41 @@ pub fn advance(simulation: Simulation, n: u32) -> Advanced
                 let toggler = st.togglers[i];
                 let on = network.on;
                 let off = network.off;
-                let t = toggler.toggle(clock, on, off);
-                if t.number != 0 {
+                let toggle = toggler.toggle(clock, on, off);
+                if toggle.number != 0 {
                     let empty = turns::empty_record();
                     return Advanced {
                         done,
-                        number: t.number,
+                        number: toggle.number,
                         note: empty,
                         simulation: st,
                     };
                 }
-                let toggled = t.toggler;
+                let toggled = toggle.toggler;
                 let policy = network.policy;
                 let sender = st.senders[i];
                 let meter = st.meters[i];
                 let switched = turns::switched(policy, toggled.enabled, sender, clock);
-                let m = meters::switch_of(meter, toggled.enabled, clock);
-                let metered = m.meter;
+                let switching = lent::switch_of(meter, toggled.enabled, clock);
+                let metered = switching.meter;
                 st.togglers[i] = toggled;
                 st.senders[i] = switched;
                 st.meters[i] = metered;
                 let toggler_after = st.togglers[i];
                 let toggler_place = 2 + 2 * i;
-                let toggler_slot = turns::toggler_slot(toggler_after);
+                let toggler_slot = queueing::toggler_slot(toggler_after);
                 st.queue[toggler_place] = toggler_slot;
                 let sender_after = st.senders[i];
                 let place = 1 + 2 * i;
                 let old_sender = st.queue[place];
-                let sender_slot = turns::sender_slot(true, sender_after, clock, old_sender);
+                let sender_slot = queueing::sender_slot(true, sender_after, clock, old_sender);
                 st.queue[place] = sender_slot;
                 let queue = st.queue;
                 let best = toggler::tick_queue::pick(queue);
                 let part = best.part;
                 let old_best = st.queue[part];
-                let cleared = turns::place_after(best, old_best);
-                let picked = turns::head_of(best);
+                let cleared = queueing::place_after(best, old_best);
+                let picked = queueing::head_of(best);
                 st.head = picked;
                 st.queue[part] = cleared;
                 note = turns::toggler_note(clock, i, toggled.enabled);

@@ -9,8 +9,8 @@ use Rattle.remy.specs.declared.network.RemyNetwork.{RemyNetwork}
 use Rattle.remy.specs.Network.{networkStop}
 use Rattle.remy.specs.Build.{noParts, populate, notBuilt, buildFrom, buildOf}
 use Rattle.remy.proofs.Networks.{fit-network, few-senders}
-use Rattle.builder.specs.declared.parts.Made.{Made}
-use Rattle.builder.specs.Parts.{toldParts, partsOf}
+use Rattle.parts.specs.declared.Made.{Made}
+use Rattle.parts.specs.Parts.{toldParts, partsOf}
 
 module _ (n : RemyNetwork) (seed k : ℕ) (stop : k ≡ networkStop n) where
   pub refused : (k ≡ 0 → ⊥) → notBuilt k ≡ buildOf n seed

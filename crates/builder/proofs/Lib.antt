@@ -1,4 +1,3 @@
 -- Laws that the functions' proofs cite.
-pub mod Making
-pub mod Places
-pub mod Building
+mod Places
+mod Building

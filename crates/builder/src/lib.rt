@@ -2,20 +2,19 @@
 // give a simulation with its first part picked, or the number of what is refused.
 ghost use mathlib.Core.Path.{_≡_};
 ghost use Rattle.remy.specs.Build.{notBuilt, buildFrom, buildOf};
-ghost use Rattle.builder.specs.Parts.{partsOf};
+ghost use Rattle.parts.specs.Parts.{partsOf};
 
-mod parts;
 mod queue;
 mod state;
 
-use crate::parts::make;
 use crate::queue::pick_next;
 use crate::queue::queue_all;
 use crate::state::fresh;
-use fitness::network_stop;
+use parts::make;
 use quantities::Time;
 use quantities::TimeSpan;
 use rand::Rng;
+use ranges::network_stop;
 use remy::Built;
 use remy::Head;
 use remy::Next;

@@ -5,11 +5,11 @@ ghost use Rattle.remy.specs.Build.{queuedAll};
 ghost use Rattle.builder.specs.Times.{timeAt};
 use link::next_tick;
 use quantities::OptionTime;
+use queueing::head_of;
+use queueing::place_after;
 use remy::Simulation;
 use toggler::Queued;
 use toggler::tick_queue::pick;
-use turns::head_of;
-use turns::place_after;
 
 // The simulation with its least time picked and removed, as its clock and next part.
 pub(crate) fn pick_next(simulation: Simulation) -> Simulation

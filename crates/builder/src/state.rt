@@ -1,24 +1,22 @@
 ghost use mathlib.Core.Path.{_≡_};
 ghost use Rattle.remy.specs.State.{withHead};
-ghost use Rattle.remy.specs.Build.{unqueued, emptyNetwork, emptyWords, emptySimulation};
-ghost use Rattle.builder.specs.Parts.{partsOf};
-use crate::parts::blank_packet;
-use crate::parts::blank_transit;
-use crate::parts::new_line;
-use crate::parts::no_parts;
-use link::Limit;
+ghost use Rattle.remy.specs.Build.{unqueued, emptySimulation};
+ghost use Rattle.parts.specs.Parts.{partsOf};
 use meters::AverageFlowMeter;
+use parts::blank_packet;
+use parts::blank_transit;
+use parts::empty_network;
+use parts::empty_words;
+use parts::new_line;
+use parts::no_parts;
 use quantities::OptionTime;
 use quantities::Time;
-use quantities::TimeSpan;
-use rand::ContinuousDistribution;
 use rand::Rng;
 use remy::Head;
 use remy::Next;
 use remy::RemyNetwork;
 use remy::Simulation;
 use sender::LossySender;
-use sender::Policy;
 use toggler::Queued;
 use toggler::Toggler;
 
@@ -56,36 +54,6 @@ pub(crate) fn fresh(
     }
 }
 
-// Delay 0, rate 1, loss 0, no limit, packets of 1 bit, no senders, on and off always 1, windows held
-// at 1.
-pub(crate) fn empty_network() -> RemyNetwork
-    ensures { λ r. ⌜ r ≡ emptyNetwork ⌝ }
-{
-    RemyNetwork {
-        delay: 0.0,
-        rate: 1.0,
-        loss: 0.0,
-        limit: Limit::None,
-        bits: 1,
-        senders: 0,
-        on: ContinuousDistribution::Always(1.0),
-        off: ContinuousDistribution::Always(1.0),
-        policy: Policy::Held(1),
-    }
-}
-
-// The generator of the empty simulation's link: the first child of seed 0.
-pub(crate) fn empty_words() -> Rng
-    ensures { λ r. ⌜ r ≡ emptyWords ⌝ }
-{
-    Rng::from_words(
-        5987356902031041503,
-        7051070477665621255,
-        6633766593972829180,
-        211316841551650330,
-    )
-}
-
 // The empty simulation: the one that the empty network and seed 0 build.
 pub fn empty_simulation() -> Simulation
     ensures { λ r. ⌜ r ≡ emptySimulation ⌝ }
@@ -95,7 +63,7 @@ pub fn empty_simulation() -> Simulation
     let none = no_parts();
     let senders = none.senders;
     let togglers = none.togglers;
-    let clock = Time(TimeSpan(1.7976931348623157e308));
+    let clock = Time::MAX;
     let head = Head {
         clock,
         next: Next::None,

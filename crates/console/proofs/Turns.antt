@@ -10,9 +10,10 @@ use lib.Seq.{length-take-le, take-at}
 use Rattle.remy.proofs.Steps.{cond-elim}
 use Rattle.printer.specs.Printing.{written}
 use Rattle.report.specs.declared.run.Report.{Report}
-use Rattle.report.specs.declared.run.Filled.{Filled}
-use Rattle.report.specs.Report.{Puts, puts, none, leftOf, FilledIs}
-use Rattle.report.proofs.Few.{fills}
+use Rattle.filling.specs.declared.Filled.{Filled}
+use Rattle.report.specs.Report.{leftOf}
+use Rattle.filling.specs.Filling.{Puts, puts, noneLeft, FilledIs}
+use Rattle.filling.proofs.Few.{fills}
 use Rattle.console.specs.declared.Turn.{Turn}
 use Rattle.console.specs.declared.output.Tally.{Tally}
 use Rattle.console.specs.declared.output.Handed.{Handed}
@@ -50,7 +51,7 @@ turn-is rep out after f long same w =
           ∙ ap (λ (k : ℕ). take k (puts (leftOf rep) out 0 .out) ++ flatten (leftOf (f .report))) (w .at)
           ∙ ap (λ (ls : List (List ℕ)). take (puts (leftOf rep) out 0 .at) (puts (leftOf rep) out 0 .out) ++ flatten ls) (w .left)
           ∙ s .bytes;
-      done = w .done ∙ ap none (sym (w .left));
+      done = w .done ∙ ap noneLeft (sym (w .left));
       fewer = fills rep out after f (omega (arith, long)) w;
     }
 
@@ -61,7 +62,7 @@ unfolding flatten
 no-bytes [] h = refl
 no-bytes (l ∷ ls) h = absurd (omega (arith, h))
 
-no-lines : (ls : List (List ℕ)) → none ls ≡ true → length ls ≤ 0
+no-lines : (ls : List (List ℕ)) → noneLeft ls ≡ true → length ls ≤ 0
 no-lines [] e = omega arith
 no-lines (l ∷ ls) e = absurd (true≢false (sym e))
 

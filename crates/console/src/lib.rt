@@ -71,7 +71,7 @@ fn next_turn(report: Report) -> Turn
     ensures { λ r. ⌜ TurnIs report r ⌝ }
 {
     let mut bytes = io::large_buffer();
-    let f = report::fill(&mut bytes, report);
+    let f = filling::fill(&mut bytes, report);
     let count = f.at;
     let done = f.done;
     let left = f.report;

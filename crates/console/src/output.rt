@@ -15,7 +15,7 @@ pub enum Handed {
 }
 
 // Nothing was handed over yet.
-pub fn nothing() -> Tally
+pub(crate) fn nothing() -> Tally
     ensures { λ r. ⌜ r .0 ≡ 0 ⌝ }
 {
     Tally(0)
@@ -24,7 +24,7 @@ pub fn nothing() -> Tally
 // Hands bytes to standard output. Where the write fails, a line on standard error says so.
 //
 // A helper within this crate, and no entry point: the caller shows that the tally stays below 2^64.
-pub fn hand(tally: Tally, bytes: &[u8]) -> Handed
+pub(crate) fn hand(tally: Tally, bytes: &[u8]) -> Handed
     requires { ⌜ tally .0 + length (now bytes) < 2 ^ 64 ⌝ }
     ensures { λ r. ⌜ HandedIs (tally .0 + length (now (bytes .entry))) r ⌝ }
 {

@@ -4,7 +4,7 @@ use mathlib.Core.List.{List, _++_, append-assoc, append-cancel-left}
 use mathlib.Core.Logic.{_⊎_, inl, inr}
 use mathlib.Core.Path.{_≡_, sym, ap, _∙_}
 use lib.ListN.{drop}
-use Rattle.notation.specs.Reading.{Form, Outcome, found, refused, Reads, Found, Absent, wordForm, keyed, pair, either}
+use Rattle.notation.specs.Reading.{Form, ReadResult, found, refused, Reads, Found, Absent, wordForm, keyed, pair, either}
 
 -- a value of the first form, then one of the second
 module _ {A B : Type 0} {F : Form A} {text : List ℕ} {at : ℕ} where
@@ -44,7 +44,7 @@ module _ {A : Type 0} {key : List ℕ} {text : List ℕ} {at : ℕ} where
         only = λ w rest e h. let u = p .only (tt, w) rest e (tt, h) in (ap (λ x. x .1) (u .0), u .1);
       }
 
-  pub key-then : (F : Form A) {next : ℕ} → Found (wordForm key) text at tt next → (o : Outcome A) → Reads F text next o → Reads (keyed key F) text at o
+  pub key-then : (F : Form A) {next : ℕ} → Found (wordForm key) text at tt next → (o : ReadResult A) → Reads F text next o → Reads (keyed key F) text at o
   key-then F f (found v last) g = key-found f g
   key-then F f refused g = key-open f g
 

@@ -13,7 +13,7 @@ use Rattle.description.specs.declared.Distribution.the-variants.{Always,
 use Rattle.description.specs.declared.Policy.{Policy}
 use Rattle.description.specs.declared.Policy.the-variants.{Held, Grown, Timed}
 use Rattle.description.specs.declared.Description.{Description}
-use Rattle.description.specs.Text.{double, whole, limitOf, distributionOf, policyOf, textOf, limitInWidth, policyInWidth, InWidth}
+use Rattle.description.specs.Text.{doubleText, wholeText, limitText, distributionText, policyText, textOf, limitInWidth, policyInWidth, InWidth}
 use Rattle.notation.proofs.Written.{hex-length, decimal-length-le}
 
 -- ---- the parts of a line
@@ -27,7 +27,7 @@ hex-ended v end = both (hexOf v) (end ∷ []) 16 1 (let e = hex-length v in omeg
 decimal-ended : (k v end : ℕ) → v < 10 ^ suc k → length (decimalOf v ++ (end ∷ [])) ≤ suc k + 1
 decimal-ended k v end h = both (decimalOf v) (end ∷ []) (suc k) 1 (decimal-length-le k v h) (omega arith)
 
-hex-line : (key : List ℕ) (v k : ℕ) → length key ≤ k → length (double key v lf) ≤ k + 17
+hex-line : (key : List ℕ) (v k : ℕ) → length key ≤ k → length (doubleText key v lf) ≤ k + 17
 hex-line key v k h = both key (hexOf v ++ (lf ∷ [])) k 17 h (hex-ended v lf)
 
 -- numbers of 32 and of 64 bits have at most 10 and 20 digits
@@ -39,44 +39,44 @@ ended-64 v end h = decimal-ended 19 v end (omega (arith, h))
 
 -- ---- the lines that have cases
 
-limit-short : (l : Limit) → limitInWidth l → length (limitOf l) ≤ 21
+limit-short : (l : Limit) → limitInWidth l → length (limitText l) ≤ 21
 limit-short L.None w = omega arith
 limit-short (L.Bits n) w = ended-64 n lf w
 
-distribution-short : (d : Distribution) → length (distributionOf d) ≤ 42
+distribution-short : (d : Distribution) → length (distributionText d) ≤ 42
 distribution-short (Always v) = let h = both alwaysKey (hexOf v ++ (lf ∷ [])) 7 17 (omega arith) (hex-ended v lf) in omega (arith, h)
 distribution-short (Uniform a b) =
-    both (double uniformKey a colon) (hexOf b ++ (lf ∷ [])) 25 17 (both uniformKey (hexOf a ++ (colon ∷ [])) 8 17 (omega arith) (hex-ended a colon)) (hex-ended b lf)
+    both (doubleText uniformKey a colon) (hexOf b ++ (lf ∷ [])) 25 17 (both uniformKey (hexOf a ++ (colon ∷ [])) 8 17 (omega arith) (hex-ended a colon)) (hex-ended b lf)
 
-policy-short : (p : Policy) → policyInWidth p → length (policyOf p) ≤ 34
+policy-short : (p : Policy) → policyInWidth p → length (policyText p) ≤ 34
 policy-short (Held w) h = let k = both heldKey (decimalOf w ++ (lf ∷ [])) 5 11 (omega arith) (ended-32 w lf h) in omega (arith, k)
 policy-short (Grown f m) h =
-    let k = both (whole grownKey f colon) (decimalOf m ++ (lf ∷ [])) 17 11 (both grownKey (decimalOf f ++ (colon ∷ [])) 6 11 (omega arith) (ended-32 f colon (h .0))) (ended-32 m lf (h .1)) in
+    let k = both (wholeText grownKey f colon) (decimalOf m ++ (lf ∷ [])) 17 11 (both grownKey (decimalOf f ++ (colon ∷ [])) 6 11 (omega arith) (ended-32 f colon (h .0))) (ended-32 m lf (h .1)) in
     omega (arith, k)
-policy-short (Timed m g) h = both (whole timedKey m colon) (hexOf g ++ (lf ∷ [])) 17 17 (both timedKey (decimalOf m ++ (colon ∷ [])) 6 11 (omega arith) (ended-32 m colon (h .0))) (hex-ended g lf)
+policy-short (Timed m g) h = both (wholeText timedKey m colon) (hexOf g ++ (lf ∷ [])) 17 17 (both timedKey (decimalOf m ++ (colon ∷ [])) 6 11 (omega arith) (ended-32 m colon (h .0))) (hex-ended g lf)
 
 -- ---- the text
 
 pub text-short : (d : Description) → InWidth d → length (textOf d) ≤ 309
 unfolding textOf
 text-short d w =
-    let to-rate = double delayKey (d .delay) lf ++ double rateKey (d .rate) lf in
-    let to-loss = to-rate ++ double lossKey (d .loss) lf in
-    let to-limit = to-loss ++ (limitKey ++ limitOf (d .limit)) in
-    let to-bits = to-limit ++ whole bitsKey (d .bits) lf in
-    let to-senders = to-bits ++ whole sendersKey (d .senders) lf in
-    let to-on = to-senders ++ (onKey ++ distributionOf (d .on)) in
-    let to-off = to-on ++ (offKey ++ distributionOf (d .off)) in
-    let to-policy = to-off ++ (policyKey ++ policyOf (d .policy)) in
-    let to-seed = to-policy ++ whole seedKey (d .seed) lf in
-    let rate : length to-rate ≤ 45 = both (double delayKey (d .delay) lf) (double rateKey (d .rate) lf) 23 22 (hex-line delayKey (d .delay) 6 (omega arith)) (hex-line rateKey (d .rate) 5 (omega arith)) in
-    let loss : length to-loss ≤ 67 = both to-rate (double lossKey (d .loss) lf) 45 22 rate (hex-line lossKey (d .loss) 5 (omega arith)) in
-    let limit : length to-limit ≤ 94 = both to-loss (limitKey ++ limitOf (d .limit)) 67 27 loss (both limitKey (limitOf (d .limit)) 6 21 (omega arith) (limit-short (d .limit) (w .limit))) in
-    let bits : length to-bits ≤ 120 = both to-limit (whole bitsKey (d .bits) lf) 94 26 limit (both bitsKey (decimalOf (d .bits) ++ (lf ∷ [])) 5 21 (omega arith) (ended-64 (d .bits) lf (w .bits))) in
-    let senders : length to-senders ≤ 139 = both to-bits (whole sendersKey (d .senders) lf) 120 19 bits (both sendersKey (decimalOf (d .senders) ++ (lf ∷ [])) 8 11 (omega arith) (ended-32 (d .senders) lf (w .senders))) in
-    let on : length to-on ≤ 184 = both to-senders (onKey ++ distributionOf (d .on)) 139 45 senders (both onKey (distributionOf (d .on)) 3 42 (omega arith) (distribution-short (d .on))) in
-    let off : length to-off ≤ 230 = both to-on (offKey ++ distributionOf (d .off)) 184 46 on (both offKey (distributionOf (d .off)) 4 42 (omega arith) (distribution-short (d .off))) in
-    let policy : length to-policy ≤ 271 = both to-off (policyKey ++ policyOf (d .policy)) 230 41 off (both policyKey (policyOf (d .policy)) 7 34 (omega arith) (policy-short (d .policy) (w .policy))) in
-    let seed : length to-seed ≤ 297 = both to-policy (whole seedKey (d .seed) lf) 271 26 policy (both seedKey (decimalOf (d .seed) ++ (lf ∷ [])) 5 21 (omega arith) (ended-64 (d .seed) lf (w .seed))) in
-    both to-seed (whole ticksKey (d .ticks) lf) 297 12 seed
+    let to-rate = doubleText delayKey (d .delay) lf ++ doubleText rateKey (d .rate) lf in
+    let to-loss = to-rate ++ doubleText lossKey (d .loss) lf in
+    let to-limit = to-loss ++ (limitKey ++ limitText (d .limit)) in
+    let to-bits = to-limit ++ wholeText bitsKey (d .bits) lf in
+    let to-senders = to-bits ++ wholeText sendersKey (d .senders) lf in
+    let to-on = to-senders ++ (onKey ++ distributionText (d .on)) in
+    let to-off = to-on ++ (offKey ++ distributionText (d .off)) in
+    let to-policy = to-off ++ (policyKey ++ policyText (d .policy)) in
+    let to-seed = to-policy ++ wholeText seedKey (d .seed) lf in
+    let rate : length to-rate ≤ 45 = both (doubleText delayKey (d .delay) lf) (doubleText rateKey (d .rate) lf) 23 22 (hex-line delayKey (d .delay) 6 (omega arith)) (hex-line rateKey (d .rate) 5 (omega arith)) in
+    let loss : length to-loss ≤ 67 = both to-rate (doubleText lossKey (d .loss) lf) 45 22 rate (hex-line lossKey (d .loss) 5 (omega arith)) in
+    let limit : length to-limit ≤ 94 = both to-loss (limitKey ++ limitText (d .limit)) 67 27 loss (both limitKey (limitText (d .limit)) 6 21 (omega arith) (limit-short (d .limit) (w .limit))) in
+    let bits : length to-bits ≤ 120 = both to-limit (wholeText bitsKey (d .bits) lf) 94 26 limit (both bitsKey (decimalOf (d .bits) ++ (lf ∷ [])) 5 21 (omega arith) (ended-64 (d .bits) lf (w .bits))) in
+    let senders : length to-senders ≤ 139 = both to-bits (wholeText sendersKey (d .senders) lf) 120 19 bits (both sendersKey (decimalOf (d .senders) ++ (lf ∷ [])) 8 11 (omega arith) (ended-32 (d .senders) lf (w .senders))) in
+    let on : length to-on ≤ 184 = both to-senders (onKey ++ distributionText (d .on)) 139 45 senders (both onKey (distributionText (d .on)) 3 42 (omega arith) (distribution-short (d .on))) in
+    let off : length to-off ≤ 230 = both to-on (offKey ++ distributionText (d .off)) 184 46 on (both offKey (distributionText (d .off)) 4 42 (omega arith) (distribution-short (d .off))) in
+    let policy : length to-policy ≤ 271 = both to-off (policyKey ++ policyText (d .policy)) 230 41 off (both policyKey (policyText (d .policy)) 7 34 (omega arith) (policy-short (d .policy) (w .policy))) in
+    let seed : length to-seed ≤ 297 = both to-policy (wholeText seedKey (d .seed) lf) 271 26 policy (both seedKey (decimalOf (d .seed) ++ (lf ∷ [])) 5 21 (omega arith) (ended-64 (d .seed) lf (w .seed))) in
+    both to-seed (wholeText ticksKey (d .ticks) lf) 297 12 seed
     (both ticksKey (decimalOf (d .ticks) ++ (lf ∷ [])) 6 6 (omega arith) (decimal-ended 4 (d .ticks) lf (let h = w .ticks in omega (arith, h))))

@@ -7,7 +7,7 @@ use native.Mathlib.Omega.{arith}
 use lib.ListN.{length, length-drop, drop-of-length-le}
 use Rattle.notation.specs.Notation.{lf}
 use Rattle.description.specs.Words.{noneLine, delayKey, rateKey, lossKey, limitKey, bitsKey, sendersKey, onKey, offKey, policyKey, seedKey, ticksKey}
-use Rattle.description.specs.Text.{textOf, limitOf, distributionOf, policyOf, InWidth, limitInWidth, distributionInWidth, policyInWidth, ReadIs, numberOf, double, whole}
+use Rattle.description.specs.Text.{textOf, limitText, distributionText, policyText, InWidth, limitInWidth, distributionInWidth, policyInWidth, ReadIs, numberOf, doubleText, wholeText}
 use Rattle.notation.specs.Reading.{Found, Absent, wordForm, decimalForm, either}
 use Rattle.description.specs.Lines.{most64, LinkCases, LoadCases, CourseCases, limitCase, distributionCase, policyCase, alwaysForm, uniformForm, heldForm, grownForm, timedForm, limitForm, distributionForm, policyForm, wholeForm}
 use Rattle.description.specs.declared.Limit.{Limit}
@@ -92,15 +92,15 @@ same-cases : (d e : Description) → casesOf d ≡ casesOf e → d ≡ e
 same-cases d e q = sym (description-on d) ∙ ap descriptionOn q ∙ description-on e
 
 -- the text of each case
-limit-text : (x : Limit) → either (wordForm noneLine) (decimalForm most64 lf) .text (limitCase x) ≡ limitOf x
+limit-text : (x : Limit) → either (wordForm noneLine) (decimalForm most64 lf) .text (limitCase x) ≡ limitText x
 limit-text L.None = refl
 limit-text (L.Bits n) = refl
 
-distribution-text : (x : Distribution) → either alwaysForm uniformForm .text (distributionCase x) ≡ distributionOf x
+distribution-text : (x : Distribution) → either alwaysForm uniformForm .text (distributionCase x) ≡ distributionText x
 distribution-text (Always v) = refl
 distribution-text (Uniform a b) = refl
 
-policy-text : (x : Policy) → either heldForm (either grownForm timedForm) .text (policyCase x) ≡ policyOf x
+policy-text : (x : Policy) → either heldForm (either grownForm timedForm) .text (policyCase x) ≡ policyText x
 policy-text (Held w) = refl
 policy-text (Grown f m) = refl
 policy-text (Timed m h) = refl
@@ -114,22 +114,22 @@ pub whole-text : (d : Description) → wholeForm .text (casesOf d) ≡ textOf d
 unfolding textOf
 whole-text d =
     in-a-row
-    (double delayKey (d .delay) lf) (double rateKey (d .rate) lf) (double lossKey (d .loss) lf) (limitForm .text (limitCase (d .limit)))
-    (whole bitsKey (d .bits) lf) (whole sendersKey (d .senders) lf)
+    (doubleText delayKey (d .delay) lf) (doubleText rateKey (d .rate) lf) (doubleText lossKey (d .loss) lf) (limitForm .text (limitCase (d .limit)))
+    (wholeText bitsKey (d .bits) lf) (wholeText sendersKey (d .senders) lf)
     (distributionForm onKey .text (distributionCase (d .on))) (distributionForm offKey .text (distributionCase (d .off)))
-    (policyForm .text (policyCase (d .policy))) (whole seedKey (d .seed) lf) (whole ticksKey (d .ticks) lf)
+    (policyForm .text (policyCase (d .policy))) (wholeText seedKey (d .seed) lf) (wholeText ticksKey (d .ticks) lf)
     ∙ (λ i.
-    double delayKey (d .delay) lf
-    ++ double rateKey (d .rate) lf
-    ++ double lossKey (d .loss) lf
+    doubleText delayKey (d .delay) lf
+    ++ doubleText rateKey (d .rate) lf
+    ++ doubleText lossKey (d .loss) lf
     ++ (limitKey ++ limit-text (d .limit) i)
-    ++ whole bitsKey (d .bits) lf
-    ++ whole sendersKey (d .senders) lf
+    ++ wholeText bitsKey (d .bits) lf
+    ++ wholeText sendersKey (d .senders) lf
     ++ (onKey ++ distribution-text (d .on) i)
     ++ (offKey ++ distribution-text (d .off) i)
     ++ (policyKey ++ policy-text (d .policy) i)
-    ++ whole seedKey (d .seed) lf
-    ++ whole ticksKey (d .ticks) lf)
+    ++ wholeText seedKey (d .seed) lf
+    ++ wholeText ticksKey (d .ticks) lf)
 
 -- the widths of each case
 limit-fits : (x : Limit) → limitInWidth x → limitForm .fits (limitCase x)

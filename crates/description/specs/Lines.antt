@@ -4,7 +4,7 @@ use mathlib.Core.List.{List}
 use mathlib.Core.Logic.{_⊎_, inl, inr}
 use Rattle.notation.specs.Notation.{lf, colon}
 use Rattle.description.specs.Words.{delayKey, rateKey, lossKey, limitKey, bitsKey, sendersKey, onKey, offKey, policyKey, seedKey, ticksKey, noneLine, alwaysKey, uniformKey, heldKey, grownKey, timedKey}
-use Rattle.notation.specs.Reading.{Form, Outcome, found, refused, wordForm, hexForm, decimalForm, keyed, pair, either}
+use Rattle.notation.specs.Reading.{Form, ReadResult, found, refused, wordForm, hexForm, decimalForm, keyed, pair, either}
 use Rattle.description.specs.declared.Limit.{Limit}
 use Rattle.description.specs.declared.Limit.the-variants as L
 use Rattle.description.specs.declared.Distribution.{Distribution}
@@ -107,31 +107,31 @@ abbrev pub courseForm : Form CourseCases
 courseForm = pair policyForm (pair (keyed seedKey (decimalForm most64 lf)) (keyed ticksKey (decimalForm 65536 lf)))
 
 -- the answers as outcomes
-abbrev pub twofold : Two → Outcome (ℕ × ℕ)
+abbrev pub twofold : Two → ReadResult (ℕ × ℕ)
 twofold (W.At a b next) = found (a, b) next
 twofold W.Refused = refused
 
-abbrev pub limited : LimitAt → Outcome (Unit {0} ⊎ ℕ)
+abbrev pub limited : LimitAt → ReadResult (Unit {0} ⊎ ℕ)
 limited (M.At v next) = found (limitCase v) next
 limited M.Refused = refused
 
-abbrev pub distributed : DistributionAt → Outcome (ℕ ⊎ (ℕ × ℕ))
+abbrev pub distributed : DistributionAt → ReadResult (ℕ ⊎ (ℕ × ℕ))
 distributed (D.At v next) = found (distributionCase v) next
 distributed D.Refused = refused
 
-abbrev pub governed : PolicyAt → Outcome (ℕ ⊎ ((ℕ × ℕ) ⊎ (ℕ × ℕ)))
+abbrev pub governed : PolicyAt → ReadResult (ℕ ⊎ ((ℕ × ℕ) ⊎ (ℕ × ℕ)))
 governed (Q.At v next) = found (policyCase v) next
 governed Q.Refused = refused
 
-abbrev pub linked : LinkAt → Outcome LinkCases
+abbrev pub linked : LinkAt → ReadResult LinkCases
 linked (K.At v next) = found (v .delay, (v .rate, (v .loss, limitCase (v .limit)))) next
 linked K.Refused = refused
 
-abbrev pub loaded : LoadAt → Outcome LoadCases
+abbrev pub loaded : LoadAt → ReadResult LoadCases
 loaded (O.At v next) = found (v .bits, (v .senders, (distributionCase (v .on), distributionCase (v .off)))) next
 loaded O.Refused = refused
 
-abbrev pub coursed : CourseAt → Outcome CourseCases
+abbrev pub coursed : CourseAt → ReadResult CourseCases
 coursed (C.At v next) = found (policyCase (v .policy), (v .seed, v .ticks)) next
 coursed C.Refused = refused
 

@@ -16,42 +16,42 @@ use Rattle.description.specs.declared.ReadDescription.{ReadDescription}
 use Rattle.description.specs.declared.ReadDescription.the-variants.{Given, Malformed}
 
 -- a line's text from its key: the key, the double or whole number, and what ends it
-abbrev pub double : List ℕ → ℕ → ℕ → List ℕ
-double key v end = key ++ (hexOf v ++ (end ∷ []))
+abbrev pub doubleText : List ℕ → ℕ → ℕ → List ℕ
+doubleText key v end = key ++ (hexOf v ++ (end ∷ []))
 
-abbrev pub whole : List ℕ → ℕ → ℕ → List ℕ
-whole key v end = key ++ (decimalOf v ++ (end ∷ []))
+abbrev pub wholeText : List ℕ → ℕ → ℕ → List ℕ
+wholeText key v end = key ++ (decimalOf v ++ (end ∷ []))
 
 -- limit: `none` or bits
-abbrev pub limitOf : Limit → List ℕ
-limitOf L.None = noneLine
-limitOf (L.Bits n) = decimalOf n ++ (lf ∷ [])
+abbrev pub limitText : Limit → List ℕ
+limitText L.None = noneLine
+limitText (L.Bits n) = decimalOf n ++ (lf ∷ [])
 
 -- on and off: `always:h`, `uniform:h:h`
-abbrev pub distributionOf : Distribution → List ℕ
-distributionOf (Always v) = double alwaysKey v lf
-distributionOf (Uniform a b) = double uniformKey a colon ++ (hexOf b ++ (lf ∷ []))
+abbrev pub distributionText : Distribution → List ℕ
+distributionText (Always v) = doubleText alwaysKey v lf
+distributionText (Uniform a b) = doubleText uniformKey a colon ++ (hexOf b ++ (lf ∷ []))
 
 -- policy: `held:w`, `grown:f:m`, `timed:m:h`
-abbrev pub policyOf : Policy → List ℕ
-policyOf (Held w) = whole heldKey w lf
-policyOf (Grown f m) = whole grownKey f colon ++ (decimalOf m ++ (lf ∷ []))
-policyOf (Timed m h) = whole timedKey m colon ++ (hexOf h ++ (lf ∷ []))
+abbrev pub policyText : Policy → List ℕ
+policyText (Held w) = wholeText heldKey w lf
+policyText (Grown f m) = wholeText grownKey f colon ++ (decimalOf m ++ (lf ∷ []))
+policyText (Timed m h) = wholeText timedKey m colon ++ (hexOf h ++ (lf ∷ []))
 
 -- the eleven lines, in this order
 unfoldable pub textOf : Description → List ℕ
 textOf d =
-    double delayKey (d .delay) lf
-    ++ double rateKey (d .rate) lf
-    ++ double lossKey (d .loss) lf
-    ++ (limitKey ++ limitOf (d .limit))
-    ++ whole bitsKey (d .bits) lf
-    ++ whole sendersKey (d .senders) lf
-    ++ (onKey ++ distributionOf (d .on))
-    ++ (offKey ++ distributionOf (d .off))
-    ++ (policyKey ++ policyOf (d .policy))
-    ++ whole seedKey (d .seed) lf
-    ++ whole ticksKey (d .ticks) lf
+    doubleText delayKey (d .delay) lf
+    ++ doubleText rateKey (d .rate) lf
+    ++ doubleText lossKey (d .loss) lf
+    ++ (limitKey ++ limitText (d .limit))
+    ++ wholeText bitsKey (d .bits) lf
+    ++ wholeText sendersKey (d .senders) lf
+    ++ (onKey ++ distributionText (d .on))
+    ++ (offKey ++ distributionText (d .off))
+    ++ (policyKey ++ policyText (d .policy))
+    ++ wholeText seedKey (d .seed) lf
+    ++ wholeText ticksKey (d .ticks) lf
 
 -- doubles, limit, bits and seed have 64 bits, other whole numbers 32; ticks are at most 65,536
 abbrev pub limitInWidth : Limit → Type 0

@@ -5,15 +5,15 @@ ghost use mathlib.Core.Path.{_≡_};
 ghost use Rattle.remy.specs.Build.{buildOf};
 ghost use Rattle.remy.specs.Tick.{tickOf};
 ghost use Rattle.remy.specs.Run.{runOf};
-ghost use Rattle.simulation.specs.Reached.{toldFlow, flowOf};
+ghost use Rattle.reading.specs.Flow.{toldFlow, flowOf};
+use flows::Rtt;
 use link::Limit;
 use meters::FlowRead;
-use meters::Rtt;
 use quantities::float::to_bits;
 use rand::ContinuousDistribution;
+use reading::SenderFlow;
 use remy::RemyNetwork;
 use sender::Policy;
-use simulation::SenderFlow;
 
 fn main() {
     match flow(network(), 1) {
@@ -51,7 +51,7 @@ fn flow(network: RemyNetwork, seed: u64) -> SenderFlow
     let next = ticked.simulation;
     let ran = simulation::run(next, 6);
     let last = ran.simulation;
-    simulation::average_properties(last, 0)
+    reading::average_properties(last, 0)
 }
 
 // The rate and the round-trip time, where there are any: 4 bit/s and 1 s here.

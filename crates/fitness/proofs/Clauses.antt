@@ -22,7 +22,8 @@ use Rattle.remy.specs.State.{Role, link, sender, toggler, nobody, senderAt, tog
 use Rattle.remy.specs.Queue.{ownTime}
 use Rattle.remy.specs.Fit.{every, upTo, packetFit, held, heldIfAny, heldSender, heldQueued, sinceStart, startedFit, meterStartFit, countOf, ackFit, heldWindowFit, isTimed, timerFit, senderOn}
 use Rattle.remy.proofs.Facts.{both-l, both-r, both-i}
-use Rattle.fitness.specs.Tests.{pastTest, sentTest, packetTest, tally, timerTest, enabledTest, stateTest, startTest, meterTest, agreeTest, sentCountTest, senderTest, roleTime, queuedTest}
+use Rattle.ranges.specs.Frame.{pastTest}
+use Rattle.clauses.specs.Tests.{sentTest, packetTest, tally, timerTest, enabledTest, stateTest, startTest, meterTest, agreeTest, sentCountTest, senderTest, roleTime, queuedTest}
 
 -- ---- conjunctions
 

@@ -21,8 +21,9 @@ use Rattle.remy.specs.Queue.{nextTimeOf}
 use Rattle.remy.specs.Fit.{every, upTo, networkFit, ringsFit, packetFit, packetsFit, bitsFit, clockFit, held, heldIfAny, heldSender, heldQueued, isNext, heldTimesFit, sinceStart, startedFit, meterStartFit, pastFit, totalsFit, sumsFit, countOf, recordsFit, rising, dueFit, ackFit, countsFit, windowsFit, timersFit, togglersAgree, metersAgree, meterBitsFit, sameTime, nextFit, queueFit, fit}
 use Rattle.remy.proofs.Facts.{FitState, fit-state, both-l, both-r, both-i, upTo-at}
 use Rattle.remy.specs.declared.simulation.Next.the-variants as Next
-use Rattle.fitness.specs.Tests.{ringsTest, clockHeld, frameTest, packetTest, transitTest, waitingTest, onLineTest, dueTest, packetsTest, firstDue, waitingOf, onLineOf, Counts, sendersTest, partTime, placeTest, emptyTest, nextTest, placesTest, queueTest}
-use Rattle.fitness.proofs.Members.{senders-same}
+use Rattle.ranges.specs.Frame.{ringsTest, clockHeld, frameTest}
+use Rattle.clauses.specs.Tests.{packetTest, transitTest, waitingTest, onLineTest, dueTest, packetsTest, firstDue, waitingOf, onLineOf, Counts, sendersTest, partTime, placeTest, emptyTest, nextTest, placesTest, queueTest}
+use Rattle.clauses.proofs.Members.{senders-same}
 use Rattle.fitness.proofs.Clauses.{same-test, and-2, and-3, and-4, and-5, every-imp, every-and, every-map, upTo-i, bits-product, count-tally, count-map, packet-clauses, clauses-packet, SenderClauses, sender-clauses, clauses-sender, own-same, queued-same}
 
 module _ (s : Simulation) where

@@ -5,13 +5,13 @@ use Prim.Native.Nat.{_≤_, _<_}
 use borrow.Author.Tests.{not-true, not-false, leb-true, ltb-true}
 use lib.Dec.{leb, ltb}
 use Rattle.quantities.specs.declared.time.Time.{Time}
-use Rattle.quantities.specs.Units.{spanOf, after}
+use Rattle.quantities.specs.Units.{spanOf, spanAfter}
 use Rattle.link.specs.Ring.{places}
 use Rattle.remy.specs.declared.simulation.Simulation.{Simulation}
 use Rattle.remy.specs.Fit.{ringsFit, fit}
 use Rattle.remy.proofs.Facts.{both-l, both-r, fit-state}
 use Rattle.steady.specs.Steady.{steady}
-use Rattle.fitness.specs.Tests.{soonTest}
+use Rattle.clauses.specs.Tests.{soonTest}
 
 module _ (s : Simulation) (r : Bool) (e : r ≡ fit s) where
   pub not-steady : not r ≡ true → false ≡ steady s
@@ -35,6 +35,6 @@ module _ (s : Simulation) (r : Bool) (e : r ≡ fit s) where
           leb-true (s .line .«on_line» .count) places (both-r a b (both-l (a && b) c (both-l (a && b && c) d rings))),
         )
 
-    pub steady-is : (latest : Time) → latest ≡ after (s .head .clock) (spanOf (s .network .delay)) → (q : Bool) → q ≡ soonTest latest (s .«on_line») (s .line .«on_line») → q ≡ steady s
+    pub steady-is : (latest : Time) → latest ≡ spanAfter (s .head .clock) (spanOf (s .network .delay)) → (q : Bool) → q ≡ soonTest latest (s .«on_line») (s .line .«on_line») → q ≡ steady s
     unfolding steady soonTest
     steady-is latest f q g = g ∙ rw (f, passed)

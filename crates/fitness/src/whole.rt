@@ -1,12 +1,12 @@
 ghost use mathlib.Core.Path.{_≡_};
 ghost use Rattle.remy.specs.Fit.{fit};
-use crate::frame::frame_fit;
-use crate::packets::first_due;
-use crate::packets::on_line_counts;
-use crate::packets::packets_fit;
-use crate::packets::waiting_counts;
-use crate::queue::queue_fit;
-use crate::senders::senders_fit;
+use clauses::packets::first_due;
+use clauses::packets::on_line_counts;
+use clauses::packets::packets_fit;
+use clauses::packets::waiting_counts;
+use clauses::queue::queue_fit;
+use clauses::senders::senders_fit;
+use ranges::frame::frame_fit;
 use remy::Simulation;
 
 // Whether a simulation is fit: no clause of document 01's "Unfit" holds of it.

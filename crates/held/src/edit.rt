@@ -27,8 +27,24 @@ use sender::SenderState;
 use toggler::Queued;
 use toggler::Toggler;
 
+// The simulation with the part of a letter anew.
+pub(crate) fn edited(letter: u8, text: &[u8], at: usize, st: Simulation) -> Simulation {
+    match letter {
+        b'V' => network(text, at, st),
+        b'C' => head(text, at, st),
+        b'L' => line(text, at, st),
+        b'W' => slots(text, at, st, false),
+        b'O' => slots(text, at, st, true),
+        b'S' => sender(text, at, st),
+        b'G' => toggler(text, at, st),
+        b'M' => meter(text, at, st),
+        b'Q' => queue(text, at, st),
+        _ => st,
+    }
+}
+
 // V and the fields of a network
-pub(crate) fn network(text: &[u8], at: usize, st: Simulation) -> Simulation {
+fn network(text: &[u8], at: usize, st: Simulation) -> Simulation {
     let mut out = st;
     let network = network_at(text, at);
     out.network = network;
@@ -36,7 +52,7 @@ pub(crate) fn network(text: &[u8], at: usize, st: Simulation) -> Simulation {
 }
 
 // C clock next
-pub(crate) fn head(text: &[u8], at: usize, st: Simulation) -> Simulation {
+fn head(text: &[u8], at: usize, st: Simulation) -> Simulation {
     let mut out = st;
     let next = next_at(text, at, 1);
     let clock = moment(text, at, 0);
@@ -54,7 +70,7 @@ fn next_at(text: &[u8], at: usize, k: usize) -> Next {
 }
 
 // L earliest-start bits, start and count of those that wait, start and count of those on the line
-pub(crate) fn line(text: &[u8], at: usize, st: Simulation) -> Simulation {
+fn line(text: &[u8], at: usize, st: Simulation) -> Simulation {
     let mut out = st;
     let rng = out.line.rng;
     let waiting = Ring {
@@ -99,7 +115,7 @@ fn at_most_512(n: usize) -> usize
 
 // O slot count sender sequence sent-time due: so many slots of those on the line
 // W slot count sender sequence sent-time: so many slots of those that wait
-pub(crate) fn slots(text: &[u8], at: usize, st: Simulation, on_line: bool) -> Simulation {
+fn slots(text: &[u8], at: usize, st: Simulation, on_line: bool) -> Simulation {
     let mut out = st;
     let start = size(text, at, 0);
     let n = at_most_512(size(text, at, 1));
@@ -126,7 +142,7 @@ fn with_slot(st: Simulation, i: usize, x: Transit, on_line: bool) -> Simulation
 }
 
 // S i sent on started greatest-ack window timer
-pub(crate) fn sender(text: &[u8], at: usize, st: Simulation) -> Simulation {
+fn sender(text: &[u8], at: usize, st: Simulation) -> Simulation {
     let mut out = st;
     let i = size(text, at, 0);
     if i < 16 {
@@ -157,7 +173,7 @@ fn state_at(text: &[u8], at: usize) -> SenderState {
 }
 
 // G i on next-toggle, and the generator's four words
-pub(crate) fn toggler(text: &[u8], at: usize, st: Simulation) -> Simulation {
+fn toggler(text: &[u8], at: usize, st: Simulation) -> Simulation {
     let mut out = st;
     let i = size(text, at, 0);
     if i < 16 {
@@ -181,7 +197,7 @@ fn words_at(text: &[u8], at: usize) -> Rng {
 }
 
 // M i total-time start bits records rtt-sum
-pub(crate) fn meter(text: &[u8], at: usize, st: Simulation) -> Simulation {
+fn meter(text: &[u8], at: usize, st: Simulation) -> Simulation {
     let mut out = st;
     let i = size(text, at, 0);
     if i < 16 {
@@ -199,7 +215,7 @@ pub(crate) fn meter(text: &[u8], at: usize, st: Simulation) -> Simulation {
 }
 
 // Q place time
-pub(crate) fn queue(text: &[u8], at: usize, st: Simulation) -> Simulation {
+fn queue(text: &[u8], at: usize, st: Simulation) -> Simulation {
     let mut out = st;
     let k = size(text, at, 0);
     if k < 33 {

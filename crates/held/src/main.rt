@@ -32,12 +32,13 @@ mod whole;
 
 use print::moment;
 use quantities::NewTime;
+use quantities::Time;
 use quantities::TimeSpan;
 use read::narrow;
 use read::network_at;
 use remy::Built;
 use remy::Simulation;
-use remy::Ticked;
+use remy::TickRecord;
 use script::byte_at;
 use script::next_line;
 use script::number;
@@ -47,12 +48,6 @@ use sink::folded;
 use sink::hex;
 use sink::printed;
 use sink::put;
-
-// The held state, and the one that was kept.
-struct Bench {
-    now: Simulation,
-    kept: Simulation,
-}
 
 fn main() {
     let mut text = buffer();
@@ -66,59 +61,45 @@ fn buffer() -> [u8; 262144]
     [0; 262144]
 }
 
+// The held state, and the one that was kept, from command to command.
 fn run(text: &[u8]) {
-    let mut bench = empty_bench();
+    let mut held = empty();
+    let mut kept = held;
     let mut at = 0;
     while at < text.len() {
-        bench = command(text, at, bench);
-        at = next_line(text, at);
+        let letter = byte_at(text, at);
+        let next = next_line(text, at);
+        if letter == b'K' {
+            kept = held;
+            at = next;
+        } else if letter == b'Z' {
+            held = kept;
+            at = next;
+        } else {
+            held = changed(letter, text, at, held);
+            at = next;
+        }
     }
 }
 
 // A refused build returns the empty simulation: here the rate is 0.
-fn empty_bench() -> Bench {
+fn empty() -> Simulation {
     let b = build_at(b"", 0);
-    let none = b.simulation;
-    Bench {
-        now: none,
-        kept: none,
-    }
+    b.simulation
 }
 
-// Carries out the command whose line begins at a place.
-fn command(text: &[u8], at: usize, bench: Bench) -> Bench {
-    let kept = bench.kept;
-    let st = bench.now;
-    match byte_at(text, at) {
-        b'K' => Bench { now: st, kept: st },
-        b'Z' => Bench { now: kept, kept },
-        _ => Bench {
-            now: changed(text, at, st),
-            kept,
-        },
-    }
-}
-
-// The held state after a command.
-fn changed(text: &[u8], at: usize, st: Simulation) -> Simulation {
-    match byte_at(text, at) {
+// The held state after the command of a letter, whose line begins at a place.
+fn changed(letter: u8, text: &[u8], at: usize, st: Simulation) -> Simulation {
+    match letter {
         b'B' => built(text, at),
-        b'V' => edit::network(text, at, st),
-        b'C' => edit::head(text, at, st),
-        b'L' => edit::line(text, at, st),
-        b'W' => edit::slots(text, at, st, false),
-        b'O' => edit::slots(text, at, st, true),
-        b'S' => edit::sender(text, at, st),
-        b'G' => edit::toggler(text, at, st),
-        b'M' => edit::meter(text, at, st),
-        b'Q' => edit::queue(text, at, st),
         b'T' => ticked(st),
         b'R' => ran(text, at, st),
         b'U' => stepped(text, at, st),
-        _ => {
-            told(text, at, st);
+        b'A' | b'F' | b'H' | b'D' | b'J' => {
+            told(letter, text, at, st);
             st
         }
+        _ => edit::edited(letter, text, at, st),
     }
 }
 
@@ -136,21 +117,27 @@ fn built(text: &[u8], at: usize) -> Simulation {
 fn ticked(st: Simulation) -> Simulation {
     let t = simulation::tick(st);
     let after = t.simulation;
-    let a = decimal(put(printed(), b"tick "), t.number as u64);
-    let b = choose(a, t.moved, b" moved", b" still");
-    let same = whole::digest(st) == whole::digest(after);
-    let c = choose(b, same, b" same", b" changed");
-    noted(c, t);
+    let note = t.note;
+    tick_line(
+        t.number,
+        t.moved,
+        whole::digest(st),
+        whole::digest(after),
+        note,
+    );
     after
 }
 
-// The record of a tick that did not move.
-fn noted(out: Sink, t: Ticked) {
-    let note = t.note;
-    if t.moved {
-        done(out);
+// A tick's number, whether it moved, whether the state has another digest, and the record of a tick that
+// did not move.
+fn tick_line(number: u32, moved: bool, before: u64, after: u64, note: TickRecord) {
+    let a = decimal(put(printed(), b"tick "), number as u64);
+    let b = choose(a, moved, b" moved", b" still");
+    let c = choose(b, before == after, b" same", b" changed");
+    if moved {
+        done(c);
     } else {
-        print::record(put(out, b" "), note);
+        print::record(put(c, b" "), note);
     }
 }
 
@@ -164,38 +151,41 @@ fn choose(out: Sink, first: bool, a: &[u8], b: &[u8]) -> Sink {
 fn ran(text: &[u8], at: usize, st: Simulation) -> Simulation {
     let r = simulation::run(st, narrow(text, at, 0));
     let after = r.simulation;
-    counted(put(printed(), b"run "), r.done, r.number, after);
+    count_line(b"run ", r.done, r.number, reading::time(after));
     after
 }
 
 // So many single ticks, or until one does not move.
 fn stepped(text: &[u8], at: usize, start: Simulation) -> Simulation {
-    let count = narrow(text, at, 0);
     let mut st = start;
     let mut moved = 0;
-    while moved < count {
+    let mut number = 0;
+    let mut left = narrow(text, at, 0);
+    while left > 0 {
         let t = simulation::tick(st);
         st = t.simulation;
-        if !t.moved {
-            counted(put(printed(), b"ticks "), moved, t.number, st);
-            return st;
+        if t.moved {
+            moved += 1;
+            left -= 1;
+        } else {
+            number = t.number;
+            left = 0;
         }
-        moved += 1;
     }
-    counted(put(printed(), b"ticks "), moved, 0, st);
+    count_line(b"ticks ", moved, number, reading::time(st));
     st
 }
 
 // How many ticks moved, the last number, and the clock.
-fn counted(out: Sink, moved: u32, number: u32, st: Simulation) {
-    let a = decimal(out, moved as u64);
+fn count_line(word: &[u8], moved: u32, number: u32, clock: Time) {
+    let a = decimal(put(printed(), word), moved as u64);
     let b = decimal(put(a, b" "), number as u64);
-    done(moment(put(b, b" "), simulation::time(st)));
+    done(moment(put(b, b" "), clock));
 }
 
 // The commands that change nothing.
-fn told(text: &[u8], at: usize, st: Simulation) {
-    match byte_at(text, at) {
+fn told(letter: u8, text: &[u8], at: usize, st: Simulation) {
+    match letter {
         b'H' => network(printed(), text, at),
         b'D' => summary(text, at),
         b'A' => done(print::state(printed(), st)),
@@ -262,7 +252,7 @@ fn held(out: Sink, fresh: Simulation, ticks: u64) -> Sink {
         }
     }
     let a = decimal(put(o, b"stop="), number);
-    let b = moment(put(a, b" clock="), simulation::time(st));
+    let b = moment(put(a, b" clock="), reading::time(st));
     print::flows(put(b, b"\n"), st)
 }
 

@@ -4,16 +4,19 @@ use crate::sink::Sink;
 use crate::sink::decimal;
 use crate::sink::double;
 use crate::sink::put;
+use flows::FlowProperties;
+use flows::Rtt;
+use link::Line;
 use link::Packet;
 use link::Ring;
 use link::Transit;
 use meters::AverageFlowMeter;
-use meters::FlowProperties;
 use meters::FlowRead;
-use meters::Rtt;
 use quantities::OptionTime;
 use quantities::Time;
 use rand::Rng;
+use reading::SenderFlow;
+use remy::Head;
 use remy::Mark;
 use remy::Name;
 use remy::Next;
@@ -21,7 +24,6 @@ use remy::Simulation;
 use remy::TickRecord;
 use sender::LossySender;
 use sender::SenderState;
-use simulation::SenderFlow;
 use toggler::Queued;
 use toggler::Toggler;
 
@@ -59,31 +61,41 @@ fn name(out: Sink, name: Name) -> Sink {
     }
 }
 
-fn pair(out: Sink, a: u64, b: u64) -> Sink {
+pub(crate) fn pair(out: Sink, a: u64, b: u64) -> Sink {
     decimal(put(decimal(out, a), b":"), b)
 }
 
 // The whole held state, with no line end.
 pub(crate) fn state(out: Sink, st: Simulation) -> Sink {
+    let waiting = st.line.waiting;
+    let on_line = st.line.on_line;
+    fields(out, st, waiting, on_line, few(st.network.senders) as usize)
+}
+
+// What a state holds, with the packets of these rings and the parts of n senders.
+pub(crate) fn fields(out: Sink, st: Simulation, waiting: Ring, on_line: Ring, n: usize) -> Sink
+    requires { ⌜ n ≤ 16 ⌝ }
+{
     let head = st.head;
     let line = st.line;
-    let part = head.next;
-    let a = moment(put(out, b"state clock="), head.clock);
-    let b = next(put(a, b" next="), part);
-    let c = moment(put(b, b" earliest="), line.earliest_transmit);
-    let d = decimal(put(c, b" bits="), line.buffer_contains.0);
-    let waiting = line.waiting;
-    let e = packets(put(d, b" waiting="), st, waiting, false);
-    let on_line = line.on_line;
-    let f = packets(put(e, b" line="), st, on_line, true);
-    let g = words(put(f, b" link="), line.rng);
-    let n = few(st.network.senders) as usize;
+    let a = front(out, head, line);
+    let b = packets(put(a, b" waiting="), st, waiting, false);
+    let c = packets(put(b, b" line="), st, on_line, true);
+    let d = words(put(c, b" link="), line.rng);
     let senders = st.senders;
     let togglers = st.togglers;
     let meters = st.meters;
     let places = st.queue;
-    let h = parts(g, senders, togglers, meters, n);
-    queue(put(h, b" queue="), places, n)
+    let e = parts(d, senders, togglers, meters, n);
+    queue(put(e, b" queue="), places, n)
+}
+
+fn front(out: Sink, head: Head, line: Line) -> Sink {
+    let part = head.next;
+    let a = moment(put(out, b"state clock="), head.clock);
+    let b = next(put(a, b" next="), part);
+    let c = moment(put(b, b" earliest="), line.earliest_transmit);
+    decimal(put(c, b" bits="), line.buffer_contains.0)
 }
 
 fn next(out: Sink, next: Next) -> Sink {
@@ -252,7 +264,7 @@ pub(crate) fn flows(out: Sink, st: Simulation) -> Sink {
 pub(crate) fn flow(out: Sink, st: Simulation, i: u32) -> Sink {
     let a = decimal(put(out, b"flow="), i as u64);
     let b = totals(a, st, i);
-    match simulation::average_properties(st, i) {
+    match reading::average_properties(st, i) {
         SenderFlow::NoSender => put(b, b" -\n"),
         SenderFlow::Of(read) => rates(b, read),
     }

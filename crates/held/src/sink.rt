@@ -42,19 +42,15 @@ fn fold(digest: u64, text: &[u8]) -> u64 {
     let mut h = digest;
     let mut i: usize = 0;
     while i < text.len() {
-        h = step_byte(h, text[i]);
+        h = step(h, text[i]);
         i += 1;
     }
     h
 }
 
-fn step_byte(digest: u64, b: u8) -> u64 {
-    step(digest, b as u64)
-}
-
-// The digest with a byte or a word more: their exclusive or, times 2^40 + 435, in 64 bits.
-pub(crate) fn step(digest: u64, word: u64) -> u64 {
-    let x = digest ^ word;
+// The digest with a byte more: their exclusive or, times 2^40 + 435, in 64 bits.
+fn step(digest: u64, byte: u8) -> u64 {
+    let x = digest ^ byte as u64;
     let low = x % 4294967296 * 435;
     let high = x / 4294967296 % 4294967296 * 435 + low / 4294967296 + x % 16777216 * 256;
     high % 4294967296 * 4294967296 + low % 4294967296

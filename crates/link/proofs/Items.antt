@@ -1,11 +1,11 @@
 -- A ring by its items: what a push and a pop do to them, where each of them stands, and that a ring stays sound. Assumes nothing.
 use mathlib.Core.Path.{_≡_, refl, sym, ap, ap₂, _∙_}
-use mathlib.Core.List.{List, [], _∷_, _++_, map}
+use mathlib.Core.List.{List, [], _∷_, _++_}
 use Prim.Native.Nat.{ℕ, zero, suc, _+_, _-_, _%_, _≤_, _<_}
 use native.Mathlib.Nat.{add-zero}
 use native.Mathlib.Numerals.{add-one}
 use native.Mathlib.Omega.{arith}
-use lib.ListN.{length, getD, set, length-set, List·getD-map}
+use lib.ListN.{length, getD, set, length-set}
 use lib.Seq.{getD-set-same, getD-set-other, ext-getD}
 use Rattle.link.specs.declared.ring.Ring.{Ring}
 use Rattle.link.specs.Ring.{places, placeAfter, pushed, popped, itemsFrom, items}
@@ -64,13 +64,6 @@ module _ {A : Type 0} (d : A) (slots : List A) (r : Ring) where
       (λ i k.
       let inside : i < r .count = omega arith in
       items-at i inside ∙ h i inside ∙ sym (from-at d others (r .start) (r .count) i inside))
-
-pub items-map : {A B : Type 0} (f : A → B) (d : A) (slots : List A) (r : Ring) → map f (items d slots r) ≡ items (f d) (map f slots) r
-items-map {B = B} f d slots r = go (r .start) (r .count)
-  where
-    go : (at n : ℕ) → map f (itemsFrom d slots at n) ≡ itemsFrom (f d) (map f slots) at n
-    go at zero = refl
-    go at (suc n) = ap₂ (λ (y : B) (l : List B). y ∷ l) (sym (List·getD-map f slots (at % places) d)) (go (at + 1) n)
 
 -- ---- a push and a pop
 

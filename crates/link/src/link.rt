@@ -64,7 +64,7 @@ pub struct Transmitted {
 }
 
 // Whether a packet is admitted while so many bits wait.
-pub fn admits_bits(limit: Limit, waiting: Information, bits: Information) -> bool
+pub(crate) fn admits_bits(limit: Limit, waiting: Information, bits: Information) -> bool
     ensures { λ r. ⌜ r ≡ admits limit waiting bits ⌝ }
 {
     match limit {

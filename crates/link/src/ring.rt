@@ -22,8 +22,8 @@ impl Ring {
 
     // With one item more at the end.
     //
-    // A helper for the crates above, and no entry point: the caller shows that there is room.
-    pub fn push(self) -> Ring
+    // For this crate: the caller shows that there is room.
+    pub(crate) fn push(self) -> Ring
         requires { ⌜ self .count < 512 ⌝ }
         ensures { λ r. ⌜ r ≡ pushed self ⌝ }
     {
@@ -35,8 +35,8 @@ impl Ring {
 
     // Without its first item.
     //
-    // A helper for the crates above, and no entry point: the caller shows that there is one.
-    pub fn pop(self) -> Ring
+    // For this crate: the caller shows that there is one.
+    pub(crate) fn pop(self) -> Ring
         requires { ⌜ (self .start < 512) × (0 < self .count) ⌝ }
         ensures { λ r. ⌜ r ≡ popped self ⌝ }
     {

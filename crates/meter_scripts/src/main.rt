@@ -17,18 +17,18 @@
 ghost use mathlib.Core.Path.{_≡_};
 ghost use Prim.Native.Nat.{_≤_};
 ghost use lib.ListN.{take};
-ghost use Rattle.meters.specs.Average.{averageOf, toldMean};
+ghost use Rattle.flows.specs.Average.{averageOf, toldMean};
+use flows::FlowProperties;
+use flows::FlowSum;
+use flows::Mean;
+use flows::Rtt;
+use lent::average;
+use lent::record_lending;
+use lent::switch_of;
 use meters::AverageFlowMeter;
-use meters::FlowProperties;
 use meters::FlowRead;
-use meters::FlowSum;
-use meters::Mean;
 use meters::Metered;
 use meters::Reception;
-use meters::Rtt;
-use meters::average;
-use meters::record_of;
-use meters::switch_of;
 use quantities::Information;
 use quantities::InformationRate;
 use quantities::OptionTime;
@@ -138,12 +138,10 @@ fn switched(letter: &[u8], meter: AverageFlowMeter, on: bool, time: Time) -> Ave
 }
 
 fn recorded(meter: AverageFlowMeter, packet: Reception, time: Time) -> AverageFlowMeter {
-    let data = packet.data;
-    let rtt = packet.rtt;
     told(
         b"R ",
-        record_of(meter, packet, time),
-        meter.packet_received(data, rtt, time),
+        record_lending(meter, packet, time),
+        meter.packet_received(packet, time),
     )
 }
 

@@ -1,6 +1,2 @@
--- Laws that the functions' proofs cite. `Plain` is for the crates above too.
+-- Laws that the functions' proofs cite.
 mod Fit
-mod Fold
-pub mod Plain
-mod Thin
-mod Lending

@@ -1,4 +1,2 @@
 -- The definitions that the contracts cite.
-pub mod Sums
 pub mod Meter
-pub mod Average

@@ -15,7 +15,7 @@ use Rattle.meters.specs.declared.meter.Metered.{Metered}
 use Rattle.meters.specs.declared.meter.Reception.{Reception}
 use Rattle.meters.specs.declared.meter.FlowRead.{FlowRead}
 use Rattle.meters.specs.declared.meter.FlowRead.the-variants.{Properties, NeverActive, Refused}
-use Rattle.meters.specs.Sums.{summedOf, averageRtt, FlowAnswer, refusal}
+use Rattle.flows.specs.Sums.{summedOf, averageRtt, FlowAnswer, refusal}
 
 -- off, and empty
 abbrev pub newMeter : AverageFlowMeter

@@ -1,8 +1,8 @@
 ghost use mathlib.Core.Path.{_≡_};
-ghost use Rattle.meters.specs.Meter.{newMeter, startFit, meterFit, ready, enabledTime, switchedOf, recordedOf, receivedOf, readOf, toldRead};
-use crate::flow::FlowProperties;
-use crate::sums::average_rtt;
-use crate::sums::summed;
+ghost use Rattle.meters.specs.Meter.{newMeter, startFit, meterFit, ready, enabledTime, switchedOf, receivedOf, readOf, toldRead};
+use flows::FlowProperties;
+use flows::sums::average_rtt;
+use flows::sums::summed;
 use quantities::Information;
 use quantities::OptionTime;
 use quantities::Time;
@@ -110,10 +110,12 @@ impl AverageFlowMeter {
         }
     }
 
-    // Counts a packet of so many bits, with its round-trip time, at a time.
-    pub fn packet_received(self, data: Information, rtt: TimeSpan, time: Time) -> Metered
-        ensures { λ r. ⌜ r ≡ recordedOf self «data» rtt time ⌝ }
+    // Counts a packet at a time.
+    pub fn packet_received(self, packet: Reception, time: Time) -> Metered
+        ensures { λ r. ⌜ r ≡ receivedOf self packet time ⌝ }
     {
+        let data = packet.data;
+        let rtt = packet.rtt;
         if !self.ready(time) {
             return Metered {
                 number: 18,
@@ -160,15 +162,6 @@ impl AverageFlowMeter {
         Metered { number: 0, meter }
     }
 
-    // Counts a packet at a time.
-    pub fn recorded(self, packet: Reception, time: Time) -> Metered
-        ensures { λ r. ⌜ r ≡ receivedOf self packet time ⌝ }
-    {
-        let data = packet.data;
-        let rtt = packet.rtt;
-        self.packet_received(data, rtt, time)
-    }
-
     // The flow so far, read at a time.
     pub fn average_properties(self, current_time: Time) -> FlowRead
         ensures { λ r. ⌜ toldRead r ≡ readOf self «current_time» ⌝ }
@@ -186,7 +179,7 @@ impl AverageFlowMeter {
     }
 
     // Whether what the meter holds is in its ranges.
-    pub fn fit(self) -> bool
+    pub(crate) fn fit(self) -> bool
         ensures { λ r. ⌜ r ≡ meterFit self ⌝ }
     {
         let records = self.records;
@@ -200,7 +193,7 @@ impl AverageFlowMeter {
         if !start_fit(start) {
             return false;
         }
-        if !in_range(0.0, 1.7976931348623157e308, self.total_time.0) {
+        if !in_range(0.0, TimeSpan::MAX.0, self.total_time.0) {
             return false;
         }
         in_range(0.0, records as f64 * 2199023255552.0, self.rtt_sum.0)

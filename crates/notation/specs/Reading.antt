@@ -18,9 +18,9 @@ pub record Form (A : Type 0) : Type 1 where
   pub fits : A → Type 0
 
 -- a value with the position after it, or a refusal
-pub data Outcome (A : Type 0) : Type 0 where
-  found : A → ℕ → Outcome A
-  refused : Outcome A
+pub data ReadResult (A : Type 0) : Type 0 where
+  found : A → ℕ → ReadResult A
+  refused : ReadResult A
 
 -- at the position stands a value in the form, up to the position next, and no other reading is possible
 pub record Found {A : Type 0} (F : Form A) (text : List ℕ) (at : ℕ) (v : A) (next : ℕ) : Type 0 where
@@ -33,16 +33,16 @@ pub record Absent {A : Type 0} (F : Form A) (text : List ℕ) (at : ℕ) : Type 
   pub none : (w : A) (rest : List ℕ) → drop at text ≡ F .text w ++ rest → F .fits w → ⊥
 
 -- a value that is found stands there; where the answer is a refusal, none does
-abbrev pub Reads : {A : Type 0} → Form A → List ℕ → ℕ → Outcome A → Type 0
+abbrev pub Reads : {A : Type 0} → Form A → List ℕ → ℕ → ReadResult A → Type 0
 Reads F text at (found v next) = Found F text at v next
 Reads F text at refused = Absent F text at
 
 -- the answers as outcomes
-abbrev pub placed : Place → Outcome (Unit {0})
+abbrev pub placed : Place → ReadResult (Unit {0})
 placed (P.At next) = found tt next
 placed P.Refused = refused
 
-abbrev pub numbered : Number → Outcome ℕ
+abbrev pub numbered : Number → ReadResult ℕ
 numbered (N.At v next) = found v next
 numbered N.Refused = refused
 
@@ -97,6 +97,6 @@ pub record NoDigits (b most : ℕ) (text : List ℕ) (at : ℕ) : Type 0 where
   pub none : (s rest : List ℕ) (v : ℕ) → drop at text ≡ s ++ rest → Run b 0 s v → NoDigit b rest → v ≤ most → ⊥
 
 -- all digits from a position are read, or their value is above most
-abbrev pub ReadsDigits : ℕ → ℕ → List ℕ → ℕ → Outcome ℕ → Type 0
+abbrev pub ReadsDigits : ℕ → ℕ → List ℕ → ℕ → ReadResult ℕ → Type 0
 ReadsDigits b most text at (found v next) = SomeDigits b most text at v next × NoDigit b (drop next text)
 ReadsDigits b most text at refused = NoDigits b most text at

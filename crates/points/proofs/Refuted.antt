@@ -15,14 +15,13 @@ use Rattle.remy.specs.declared.simulation.Mark.the-variants as Mark
 use Rattle.remy.specs.Network.{between}
 use Rattle.remy.specs.State.{noTime, senderAt}
 use Rattle.remy.specs.Build.{buildOf}
-use Rattle.remy.specs.History.{after, history, Fresh, PacketId}
+use Rattle.remy.specs.History.{ticks, after, history, Fresh, PacketId}
 use Rattle.remy.specs.Account.{total, isPacket, everywhere, Account}
 use Rattle.remy.proofs.Account.{demand3}
 use Rattle.remy.proofs.Opened.{doubles, ticking}
 use Rattle.points.specs.Points.{Hold}
-use Rattle.points.specs.Counted.{calls}
 use Rattle.points.specs.Unfit.{three}
-use Rattle.points.specs.Refuted.{Case, network, sent, books, once, meter, starts, leaves, arrival, spacing, bits, limit, Says, Others, Accounted, Refuted, plan, ten, tenth, anotherNetwork, unrecorded, mislaid, recordedTwice, passedOver, overtaken, late, tooClose, talliedTwice, overfull, fullAndWaiting, waitingAndOnLine, onLineAndFull, leftAndOnLine, numbered, nowhere, neverSent, refutations}
+use Rattle.points.specs.Refuted.{Case, network, sent, books, once, meter, starts, leaves, arrival, spacing, bits, limit, Says, Others, Accounted, Refuted, plan, ten, tenth, anotherNetwork, unrecorded, mislaid, recordedTwice, passedOver, overtaken, late, tooClose, talliedTwice, overfull, fullAndWaiting, waitingAndOnLine, onLineAndFull, leftAndOnLine, numberedCase, nowhere, neverSent, refutations}
 use Rattle.points.proofs.Claims.{_and_}
 use Rattle.points.proofs.Once.{eachOnce, once-by}
 use Rattle.points.proofs.Follows.{books-follows, sent-follows}
@@ -70,18 +69,18 @@ plan-fresh : Fresh plan (buildOf plan 1 .simulation)
 unfolding ticking
 plan-fresh = (1, refl)
 
-ten-noted : history (calls 10) (buildOf plan 1 .simulation) ≡ ten
+ten-noted : history (ticks 10) (buildOf plan 1 .simulation) ≡ ten
 unfolding ticking
 ten-noted = refl
 
-ten-done : after (calls 10) (buildOf plan 1 .simulation) ≡ tenth
+ten-done : after (ticks 10) (buildOf plan 1 .simulation) ≡ tenth
 unfolding ticking tenth
 ten-done = refl
 
 ten-account : Account plan ten tenth
 ten-account =
     subst (λ (s : Simulation). Account plan ten s) ten-done
-    (subst (λ h. Account plan h (after (calls 10) (buildOf plan 1 .simulation))) ten-noted (demand3 plan (buildOf plan 1 .simulation) plan-fresh (calls 10)))
+    (subst (λ h. Account plan h (after (ticks 10) (buildOf plan 1 .simulation))) ten-noted (demand3 plan (buildOf plan 1 .simulation) plan-fresh (ticks 10)))
 
 -- ---- the clauses that hold are computed
 
@@ -179,19 +178,19 @@ not-once k i m e a = eqb-false (total (isPacket i m) (everywhere (k .past) (k .l
 
 -- whatever the packets' numbers are, the other clauses hold
 module _ (a b c d e f : ℕ) where
-  counted-others : Others (once ∷ []) (numbered a b c d e f Mark.Counted 1)
+  counted-others : Others (once ∷ []) (numberedCase a b c d e f Mark.Counted 1)
   unfolding doubles tenth
   counted-others = refl and only _ refl and only _ refl and only _ refl and refl and refl and refl and (tt, (tt, tt)) and refl and omega arith and tt
 
-  lost-others : Others (once ∷ []) (numbered a b c d e f Mark.Lost 0)
+  lost-others : Others (once ∷ []) (numberedCase a b c d e f Mark.Lost 0)
   unfolding doubles tenth
   lost-others = refl and only _ refl and only _ refl and only _ refl and refl and refl and refl and (tt, (tt, tt)) and refl and omega arith and tt
 
-  old-others : Others (once ∷ []) (numbered a b c d e f Mark.Old 0)
+  old-others : Others (once ∷ []) (numberedCase a b c d e f Mark.Old 0)
   unfolding doubles tenth
   old-others = refl and only _ refl and only _ refl and only _ refl and refl and refl and refl and (tt, (tt, tt)) and refl and omega arith and tt
 
-  ignored-others : Others (once ∷ []) (numbered a b c d e f Mark.Ignored 0)
+  ignored-others : Others (once ∷ []) (numberedCase a b c d e f Mark.Ignored 0)
   unfolding doubles tenth
   ignored-others = refl and only _ refl and only _ refl and only _ refl and refl and refl and refl and (tt, (tt, tt)) and refl and omega arith and tt
 

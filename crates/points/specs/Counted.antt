@@ -1,69 +1,64 @@
 -- The account of the worked example after its seven ticks, as one list of claims: what demand 3 counts there, as numbers.
 use mathlib.Core.Path.{_≡_}
 use mathlib.Core.List.{List, [], _∷_, map}
-use Prim.Native.Nat.{ℕ, zero, suc, _+_}
+use Prim.Native.Nat.{ℕ, _+_}
 use Rattle.remy.specs.declared.simulation.Simulation.{Simulation}
 use Rattle.remy.specs.declared.simulation.TickRecord.{TickRecord}
 use Rattle.remy.specs.State.{senderAt, meterAt, waitingItems, onLinePackets}
 use Rattle.remy.specs.Build.{buildOf}
-use Rattle.remy.specs.History.{Call, tick, after, history, Fresh, PacketId, idOf, ids, admissions, starts, leaves, droppedFull, lost, counted, old, ignored}
+use Rattle.remy.specs.History.{ticks, after, history, Fresh, PacketId, idOf, ids, admissions, starts, leaves, droppedFull, lost, counted, old, ignored}
 use Rattle.remy.specs.Account.{total, ofSender, Account}
 use Rattle.points.specs.Worked.{worked}
-
--- so many ticks, as calls
-abbrev pub calls : ℕ → List Call
-calls zero = []
-calls (suc n) = tick ∷ calls n
 
 -- the worked example as it is built, after its seven ticks, and their records
 abbrev pub begun : Simulation
 begun = buildOf worked 1 .simulation
 
 abbrev pub ended : Simulation
-ended = after (calls 7) begun
+ended = after (ticks 7) begun
 
-abbrev pub noted : List TickRecord
-noted = history (calls 7) begun
+abbrev pub recorded : List TickRecord
+recorded = history (ticks 7) begun
 
 -- how many packets of sender 0 a list has
 abbrev pub many : List PacketId → ℕ
 many = total (ofSender 0)
 
 -- packet m of sender 0
-abbrev pub its : ℕ → PacketId
-its m = record { sender = 0; seq = m }
+abbrev pub ownId : ℕ → PacketId
+ownId m = record { sender = 0; seq = m }
 
 abbrev pub totals : List (Type 0)
 totals =
     -- The build is fresh,
     Fresh worked begun
     -- so demand 3 gives the account of its seven ticks.
-    ∷ Account worked noted ended
+    ∷ Account worked recorded ended
     -- sent 4 = full 1 + waiting 1 + on the line 1 + lost 0 + counted 1 + old 0 + ignored 0
     ∷ (senderAt ended 0 .«packets_sent» ≡ 4)
-    ∷ (many (droppedFull noted) ≡ 1)
+    ∷ (many (droppedFull recorded) ≡ 1)
     ∷ (many (map idOf (waitingItems ended)) ≡ 1)
     ∷ (many (map idOf (onLinePackets ended)) ≡ 1)
-    ∷ (many (lost noted) ≡ 0)
-    ∷ (many (counted noted) ≡ 1)
-    ∷ (many (old noted) ≡ 0)
-    ∷ (many (ignored noted) ≡ 0)
+    ∷ (many (lost recorded) ≡ 0)
+    ∷ (many (counted recorded) ≡ 1)
+    ∷ (many (old recorded) ≡ 0)
+    ∷ (many (ignored recorded) ≡ 0)
     -- the clause `books` of that account, at sender 0
     ∷ (senderAt ended 0 .«packets_sent»
-    ≡ many (droppedFull noted)
+    ≡ many (droppedFull recorded)
     + many (map idOf (waitingItems ended))
     + many (map idOf (onLinePackets ended))
-    + many (lost noted)
-    + many (counted noted)
-    + many (old noted)
-    + many (ignored noted))
+    + many (lost recorded)
+    + many (counted recorded)
+    + many (old recorded)
+    + many (ignored recorded))
     -- the meter's records
     ∷ (meterAt ended 0 .records ≡ 1)
     -- in order: admitted 1, 2, 4; started 1, 2; left 1; 4 waits, 2 is on the line, 3 was dropped full
-    ∷ (ids (admissions noted) ≡ its 1 ∷ its 2 ∷ its 4 ∷ [])
-    ∷ (ids (starts noted) ≡ its 1 ∷ its 2 ∷ [])
-    ∷ (ids (leaves noted) ≡ its 1 ∷ [])
-    ∷ (map idOf (waitingItems ended) ≡ its 4 ∷ [])
-    ∷ (map idOf (onLinePackets ended) ≡ its 2 ∷ [])
-    ∷ (droppedFull noted ≡ its 3 ∷ [])
+    ∷ (ids (admissions recorded) ≡ ownId 1 ∷ ownId 2 ∷ ownId 4 ∷ [])
+    ∷ (ids (starts recorded) ≡ ownId 1 ∷ ownId 2 ∷ [])
+    ∷ (ids (leaves recorded) ≡ ownId 1 ∷ [])
+    ∷ (map idOf (waitingItems ended) ≡ ownId 4 ∷ [])
+    ∷ (map idOf (onLinePackets ended) ≡ ownId 2 ∷ [])
+    ∷ (droppedFull recorded ≡ ownId 3 ∷ [])
     ∷ []

@@ -17,42 +17,42 @@ use Rattle.remy.specs.Network.{networkStop}
 
 -- ---- the good network, and one field of it anew
 
-abbrev pub networkOf : Float → Float → Float → Limit → ℕ → ℕ → ContinuousDistribution → ContinuousDistribution → Policy → RemyNetwork
-networkOf delay rate loss limit bits senders on off policy =
+abbrev pub networkFrom : Float → Float → Float → Limit → ℕ → ℕ → ContinuousDistribution → ContinuousDistribution → Policy → RemyNetwork
+networkFrom delay rate loss limit bits senders on off policy =
     record { delay = delay; rate = rate; loss = loss; limit = limit; bits = bits; senders = senders; on = on; off = off; policy = policy }
 
 abbrev pub always : ContinuousDistribution
 always = Always (power 0)
 
 abbrev pub good : RemyNetwork
-good = networkOf (power 0) (power 3) zeroF Limit.None 8 1 always always (Held 3)
+good = networkFrom (power 0) (power 3) zeroF Limit.None 8 1 always always (Held 3)
 
 abbrev pub withDelay : Float → RemyNetwork
-withDelay x = networkOf x (power 3) zeroF Limit.None 8 1 always always (Held 3)
+withDelay x = networkFrom x (power 3) zeroF Limit.None 8 1 always always (Held 3)
 
 abbrev pub withRate : Float → RemyNetwork
-withRate x = networkOf (power 0) x zeroF Limit.None 8 1 always always (Held 3)
+withRate x = networkFrom (power 0) x zeroF Limit.None 8 1 always always (Held 3)
 
 abbrev pub withLoss : Float → RemyNetwork
-withLoss x = networkOf (power 0) (power 3) x Limit.None 8 1 always always (Held 3)
+withLoss x = networkFrom (power 0) (power 3) x Limit.None 8 1 always always (Held 3)
 
 abbrev pub withLimit : Limit → RemyNetwork
-withLimit x = networkOf (power 0) (power 3) zeroF x 8 1 always always (Held 3)
+withLimit x = networkFrom (power 0) (power 3) zeroF x 8 1 always always (Held 3)
 
 abbrev pub withBits : ℕ → RemyNetwork
-withBits x = networkOf (power 0) (power 3) zeroF Limit.None x 1 always always (Held 3)
+withBits x = networkFrom (power 0) (power 3) zeroF Limit.None x 1 always always (Held 3)
 
-abbrev pub withSenders : ℕ → RemyNetwork
-withSenders x = networkOf (power 0) (power 3) zeroF Limit.None 8 x always always (Held 3)
+abbrev pub withSenderCount : ℕ → RemyNetwork
+withSenderCount x = networkFrom (power 0) (power 3) zeroF Limit.None 8 x always always (Held 3)
 
 abbrev pub withOn : ContinuousDistribution → RemyNetwork
-withOn x = networkOf (power 0) (power 3) zeroF Limit.None 8 1 x always (Held 3)
+withOn x = networkFrom (power 0) (power 3) zeroF Limit.None 8 1 x always (Held 3)
 
 abbrev pub withOff : ContinuousDistribution → RemyNetwork
-withOff x = networkOf (power 0) (power 3) zeroF Limit.None 8 1 always x (Held 3)
+withOff x = networkFrom (power 0) (power 3) zeroF Limit.None 8 1 always x (Held 3)
 
 abbrev pub withPolicy : Policy → RemyNetwork
-withPolicy x = networkOf (power 0) (power 3) zeroF Limit.None 8 1 always always x
+withPolicy x = networkFrom (power 0) (power 3) zeroF Limit.None 8 1 always always x
 
 -- the numbers of a network with this on time, and of one with this off time
 abbrev pub stopsWith : ContinuousDistribution → List ℕ
@@ -146,9 +146,9 @@ ranges =
     ∷ (networkStop (withBits 0) ≡ 5)
     ∷ (networkStop (withBits 16777217) ≡ 5)
     -- or over 16 senders
-    ∷ (networkStop (withSenders 0) ≡ 0)
-    ∷ (networkStop (withSenders 16) ≡ 0)
-    ∷ (networkStop (withSenders 17) ≡ 5)
+    ∷ (networkStop (withSenderCount 0) ≡ 0)
+    ∷ (networkStop (withSenderCount 16) ≡ 0)
+    ∷ (networkStop (withSenderCount 17) ≡ 5)
     -- 6: on or off: always v not in 0 < v ≤ 2^20;
     ∷ (stopsWith (Always tiny) ≡ 0 ∷ 0 ∷ [])
     ∷ (stopsWith (Always (power 20)) ≡ 0 ∷ 0 ∷ [])
@@ -186,7 +186,7 @@ ranges =
     ∷ (networkStop (withPolicy (Timed 0 leastGap)) ≡ 7)
     ∷ (networkStop (withPolicy (Timed 65 leastGap)) ≡ 7)
     -- Of several the lowest; and all are tested where no sender is.
-    ∷ (networkStop (networkOf nan nan nan Limit.None 0 17 always always (Held 0)) ≡ 1)
-    ∷ (networkStop (networkOf zeroF (power 0) zeroF Limit.None 0 0 (Always nan) always (Held 0)) ≡ 5)
-    ∷ (networkStop (networkOf zeroF (power 0) zeroF Limit.None 1 0 always (Always nan) (Held 0)) ≡ 6)
+    ∷ (networkStop (networkFrom nan nan nan Limit.None 0 17 always always (Held 0)) ≡ 1)
+    ∷ (networkStop (networkFrom zeroF (power 0) zeroF Limit.None 0 0 (Always nan) always (Held 0)) ≡ 5)
+    ∷ (networkStop (networkFrom zeroF (power 0) zeroF Limit.None 1 0 always (Always nan) (Held 0)) ≡ 6)
     ∷ []

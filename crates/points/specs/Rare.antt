@@ -21,22 +21,22 @@ use Rattle.sender.specs.Sender.{tickTimer, tickSend, returnedOf}
 use Rattle.remy.specs.Build.{emptyNetwork, emptySimulation, buildOf}
 use Rattle.points.specs.Points.{one}
 use Rattle.points.specs.Ranges.{double}
-use Rattle.points.specs.Worked.{at}
+use Rattle.points.specs.Worked.{momentOf}
 
 -- ---- a sender that is on since 1 and has sent 9
 
-abbrev pub two : Time
-two = at 0x4000000000000000
+abbrev pub atTwo : Time
+atTwo = momentOf 0x4000000000000000
 
-abbrev pub three : Time
-three = at 0x4008000000000000
+abbrev pub atThree : Time
+atThree = momentOf 0x4008000000000000
 
 -- greatest ack, window, timer
 abbrev pub onWith : ℕ → ℕ → OptionTime → Enabled
 onWith ack window timer = record { started = one; «greatest_ack» = ack; cwnd = window; timer = timer }
 
-abbrev pub senderWith : ℕ → ℕ → LossySender
-senderWith ack window = record { «packets_sent» = 9; state = State.Enabled (onWith ack window None); rng = fromWords 1 2 3 4 }
+abbrev pub onSender : ℕ → ℕ → LossySender
+onSender ack window = record { «packets_sent» = 9; state = State.Enabled (onWith ack window None); rng = fromWords 1 2 3 4 }
 
 -- timed with a gap of 1
 abbrev pub timed : ℕ → Policy
@@ -44,17 +44,17 @@ timed most = Timed most (double 0x3ff0000000000000)
 
 -- a timer at 2 of timed 8, at this window; and the answer with that one
 abbrev pub fired : ℕ → TimerTicked
-fired window = tickTimer (timed 8) (onWith 7 window (Some two)) two
+fired window = tickTimer (timed 8) (onWith 7 window (Some atTwo)) atTwo
 
 abbrev pub halved : ℕ → TimerTicked
-halved window = record { number = 0; enabled = onWith 7 window (Some three) }
+halved window = record { number = 0; enabled = onWith 7 window (Some atThree) }
 
 -- a packet sent at 1 comes back at a greatest ack of 7 and a window of 5; and the answer with those
 abbrev pub comesBack : Policy → ℕ → Returned
-comesBack policy seq = returnedOf policy (senderWith 7 5) (record { sender = 0; seq = seq; «sent_time» = one })
+comesBack policy seq = returnedOf policy (onSender 7 5) (record { sender = 0; seq = seq; «sent_time» = one })
 
 abbrev pub counts : ℕ → ℕ → Returned
-counts ack window = record { heard = Counted; sender = senderWith ack window }
+counts ack window = record { heard = Counted; sender = onSender ack window }
 
 abbrev pub rare : List (Type 0)
 rare =
@@ -63,8 +63,8 @@ rare =
     ∷ (fired 4 ≡ halved 2)
     ∷ (fired 1 ≡ halved 1)
     -- Held 3, given at each send
-    ∷ (tickSend 9 (Held 3) (onWith 7 5 None) two 0
-    ≡ record { number = 0; packet = record { sender = 0; seq = 10; «sent_time» = two }; «packets_sent» = 10; enabled = onWith 7 3 None })
+    ∷ (tickSend 9 (Held 3) (onWith 7 5 None) atTwo 0
+    ≡ record { number = 0; packet = record { sender = 0; seq = 10; «sent_time» = atTwo }; «packets_sent» = 10; enabled = onWith 7 3 None })
     -- and count.
     ∷ (comesBack (Held 3) 8 ≡ counts 8 3)
     -- Grown 1..2: a count gives min(window + 1, 2); timed grows likewise.
@@ -84,5 +84,5 @@ rare =
     ∷ (emptyNetwork .policy ≡ Held 1)
     -- seed 0, clock MAX.
     ∷ (buildOf emptyNetwork 0 ≡ record { number = 0; simulation = emptySimulation })
-    ∷ (emptySimulation .head .clock ≡ at 0x7fefffffffffffff)
+    ∷ (emptySimulation .head .clock ≡ momentOf 0x7fefffffffffffff)
     ∷ []

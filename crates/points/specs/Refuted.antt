@@ -10,8 +10,7 @@ use lib.Dec.{ltb, eqb}
 use lib.Ieee.{Float, fin}
 use Rattle.quantities.specs.declared.time.OptionTime.the-variants.{None, Some}
 use Rattle.quantities.specs.Doubles.{zeroF, power}
-use Rattle.quantities.specs.Units.{spanOf, timeOf, amountOf, rateOf, amountOverRate}
-use Rattle.quantities.specs.Units.{after as spanAfter}
+use Rattle.quantities.specs.Units.{spanOf, timeOf, amountOf, rateOf, amountOverRate, spanAfter}
 use Rattle.rand.specs.declared.distribution.ContinuousDistribution.the-variants.{Always}
 use Rattle.rand.specs.Generator.{fromWords}
 use Rattle.meters.specs.Meter.{newMeter}
@@ -32,10 +31,10 @@ use Rattle.remy.specs.Network.{between}
 use Rattle.remy.specs.State.{senderAt, meterAt, waitingItems, onLineItems, onLinePackets, senderBits, packetBits, totalBits, withLine, withWaiting, withOnLine, withMeter}
 use Rattle.remy.specs.Build.{newSender, zeroWords, blankPacket, blankTransit, blankToggler, buildOf}
 use Rattle.remy.specs.Tick.{tickOf}
-use Rattle.remy.specs.History.{Call, tick, after, history, Fresh, idOf, ids, times, admissions, droppedFull, lost, counted, old, ignored}
+use Rattle.remy.specs.History.{Call, tick, ticks, after, history, Fresh, idOf, ids, times, admissions, droppedFull, lost, counted, old, ignored}
 use Rattle.remy.specs.History.{starts as startsIn, leaves as leavesIn}
 use Rattle.remy.specs.Account.{total, ofSender, isPacket, everywhere, Spaced, Limited, Account}
-use Rattle.points.specs.Counted.{calls}
+use Rattle.points.specs.Worked.{none}
 use Rattle.points.specs.Unfit.{three, toggleTime, packetOf, transitOf, withNetwork}
 
 -- ---- a network, a history and a last state, and what each clause of the account says of them
@@ -130,26 +129,23 @@ plan = networkWith zeroF (Limit.Bits 32)
 abbrev pub its : ℕ → Name
 its m = Name.Packet 0 m
 
-abbrev pub none : Name
-none = Name.None
-
-abbrev pub at : Float → ℕ → Mark → Name → Name → TickRecord
-at time part mark packet started = record { time = timeOf time; part = part; mark = mark; packet = packet; started = started }
+abbrev pub noteAt : Float → ℕ → Mark → Name → Name → TickRecord
+noteAt time part mark packet started = record { time = timeOf time; part = part; mark = mark; packet = packet; started = started }
 
 -- A history: the sender is switched on and sends the packets a to e, and f is dropped full. Packet a starts at 1, b at this time and c at that;
 -- when c starts, a leaves with a mark.
 abbrev pub historyWith : ℕ → ℕ → ℕ → ℕ → ℕ → ℕ → Float → Float → Mark → List TickRecord
 historyWith a b c d e f second third left =
-    at (power 0) 2 Mark.Enabled none none
-    ∷ at (power 0) 1 Mark.Sent (its a) none
-    ∷ at (power 0) 0 Mark.None none (its a)
-    ∷ at (power 0) 1 Mark.Sent (its b) none
-    ∷ at (power 0) 1 Mark.Sent (its c) none
-    ∷ at (power 0) 1 Mark.Sent (its d) none
-    ∷ at (power 0) 1 Mark.Sent (its e) none
-    ∷ at (power 0) 1 Mark.Full (its f) none
-    ∷ at second 0 Mark.None none (its b)
-    ∷ at third 0 left (its a) (its c)
+    noteAt (power 0) 2 Mark.Enabled none none
+    ∷ noteAt (power 0) 1 Mark.Sent (its a) none
+    ∷ noteAt (power 0) 0 Mark.None none (its a)
+    ∷ noteAt (power 0) 1 Mark.Sent (its b) none
+    ∷ noteAt (power 0) 1 Mark.Sent (its c) none
+    ∷ noteAt (power 0) 1 Mark.Sent (its d) none
+    ∷ noteAt (power 0) 1 Mark.Sent (its e) none
+    ∷ noteAt (power 0) 1 Mark.Full (its f) none
+    ∷ noteAt second 0 Mark.None none (its b)
+    ∷ noteAt third 0 left (its a) (its c)
     ∷ []
 
 -- 0:1 is counted at 3, 0:2 and 0:3 are on the line, 0:4 and 0:5 wait, 0:6 was dropped full
@@ -244,15 +240,15 @@ anotherNetwork = record { network = networkWith (power 0) (Limit.Bits 32); past 
 abbrev pub unrecorded : Case
 unrecorded =
     caseOf
-    (at (power 0) 2 Mark.Enabled none none
-    ∷ at (power 0) 1 Mark.Sent (its 1) none
-    ∷ at (power 0) 0 Mark.None none (its 1)
-    ∷ at (power 0) 1 Mark.Sent (its 2) none
-    ∷ at (power 0) 1 Mark.Sent (its 3) none
-    ∷ at (power 0) 1 Mark.Sent (its 4) none
-    ∷ at (power 0) 1 Mark.Full (its 6) none
-    ∷ at (power 1) 0 Mark.None none (its 2)
-    ∷ at three 0 Mark.Counted (its 1) (its 3)
+    (noteAt (power 0) 2 Mark.Enabled none none
+    ∷ noteAt (power 0) 1 Mark.Sent (its 1) none
+    ∷ noteAt (power 0) 0 Mark.None none (its 1)
+    ∷ noteAt (power 0) 1 Mark.Sent (its 2) none
+    ∷ noteAt (power 0) 1 Mark.Sent (its 3) none
+    ∷ noteAt (power 0) 1 Mark.Sent (its 4) none
+    ∷ noteAt (power 0) 1 Mark.Full (its 6) none
+    ∷ noteAt (power 1) 0 Mark.None none (its 2)
+    ∷ noteAt three 0 Mark.Counted (its 1) (its 3)
     ∷ [])
     tenth
 
@@ -292,32 +288,32 @@ overfull = record { network = networkWith zeroF (Limit.Bits 8); past = ten; last
 
 -- As it was, but for the packets' numbers and the mark: 0:a left with it, 0:b and 0:c are on the line, 0:d and 0:e wait, 0:f was dropped full. The meter has so
 -- many records.
-abbrev pub numbered : ℕ → ℕ → ℕ → ℕ → ℕ → ℕ → Mark → ℕ → Case
-numbered a b c d e f mark records = caseOf (historyWith a b c d e f (power 1) three mark) (recordsAre (onLineAre (waitingAre tenth d e) b c) records)
+abbrev pub numberedCase : ℕ → ℕ → ℕ → ℕ → ℕ → ℕ → Mark → ℕ → Case
+numberedCase a b c d e f mark records = caseOf (historyWith a b c d e f (power 1) three mark) (recordsAre (onLineAre (waitingAre tenth d e) b c) records)
 
 -- 0:5 was dropped full, and waits
 abbrev pub fullAndWaiting : Case
-fullAndWaiting = numbered 1 2 3 4 5 5 Mark.Counted 1
+fullAndWaiting = numberedCase 1 2 3 4 5 5 Mark.Counted 1
 
 -- 0:3 waits, and is on the line
 abbrev pub waitingAndOnLine : Case
-waitingAndOnLine = numbered 1 2 3 3 5 6 Mark.Counted 1
+waitingAndOnLine = numberedCase 1 2 3 3 5 6 Mark.Counted 1
 
 -- 0:3 is on the line, and was dropped full
 abbrev pub onLineAndFull : Case
-onLineAndFull = numbered 1 2 3 4 5 3 Mark.Counted 1
+onLineAndFull = numberedCase 1 2 3 4 5 3 Mark.Counted 1
 
 -- 0:2 left the line with this mark, and is on it
 abbrev pub leftAndOnLine : Mark → ℕ → Case
-leftAndOnLine mark records = numbered 2 2 3 4 5 6 mark records
+leftAndOnLine mark records = numberedCase 2 2 3 4 5 6 mark records
 
 -- 0:7 was dropped full, and 0:6 is nowhere
 abbrev pub nowhere : Case
-nowhere = numbered 1 2 3 4 5 7 Mark.Counted 1
+nowhere = numberedCase 1 2 3 4 5 7 Mark.Counted 1
 
 -- a packet of a sender that is not there was dropped full
 abbrev pub neverSent : Case
-neverSent = caseOf (ten ++ at three 1 Mark.Full (Name.Packet 1 1) none ∷ []) tenth
+neverSent = caseOf (ten ++ noteAt three 1 Mark.Full (Name.Packet 1 1) none ∷ []) tenth
 
 -- ---- the claims
 
@@ -328,8 +324,8 @@ refutations =
     ∷ ((k : Case) → Others [] k → Accounted k)
     -- The ten ticks are those of a fresh simulation, so there is an account of them.
     ∷ Fresh plan (buildOf plan 1 .simulation)
-    ∷ (history (calls 10) (buildOf plan 1 .simulation) ≡ ten)
-    ∷ (after (calls 10) (buildOf plan 1 .simulation) ≡ tenth)
+    ∷ (history (ticks 10) (buildOf plan 1 .simulation) ≡ ten)
+    ∷ (after (ticks 10) (buildOf plan 1 .simulation) ≡ tenth)
     ∷ Account plan ten tenth
     -- One clause is broken and all others hold.
     ∷ Refuted (network ∷ []) anotherNetwork

@@ -32,7 +32,7 @@ use Rattle.remy.specs.State.{noToggler, noMeter, senderAt, togglerAt, meterAt, 
 use Rattle.remy.specs.Queue.{nextTimeOf}
 use Rattle.remy.specs.Build.{newLine, newSender, zeroWords, blankPacket, blankTransit, blankToggler, emptySimulation}
 use Rattle.remy.specs.Fit.{every, upTo, eachSender, networkFit, packetFit, bitsFit, clockFit, held, heldIfAny, isIdle, heldSender, heldQueued, isNext, sinceStart, startedFit, meterStartFit, totalsFit, sumsFit, recordsFit, dueFit, countsFit, windowsFit, timersFit, togglersAgree, metersAgree, meterBitsFit, sameTime, nextFit, fit}
-use Rattle.points.specs.Ranges.{double, minusZero, belowZero, tiny, good, withDelay, withRate, withLoss, withLimit, withBits, withSenders, withOn, withPolicy}
+use Rattle.points.specs.Ranges.{double, minusZero, belowZero, tiny, good, withDelay, withRate, withLoss, withLimit, withBits, withSenderCount, withOn, withPolicy}
 use Rattle.points.specs.Worked.{worked, workedAfter}
 
 -- ---- three states: the worked example built and after seven ticks, and the empty simulation
@@ -171,14 +171,14 @@ abbrev pub changed : (Enabled → Enabled) → SenderState → SenderState
 changed f State.WaitingForEnable = State.WaitingForEnable
 changed f (State.Enabled e) = State.Enabled (f e)
 
-abbrev pub senderWith : Simulation → ℕ → SenderState → Simulation
-senderWith s sent state = withSender s 0 (record { «packets_sent» = sent; state = state; rng = senderAt s 0 .rng })
+abbrev pub withSenderState : Simulation → ℕ → SenderState → Simulation
+withSenderState s sent state = withSender s 0 (record { «packets_sent» = sent; state = state; rng = senderAt s 0 .rng })
 
 abbrev pub withSent : Simulation → ℕ → Simulation
-withSent s x = senderWith s x (senderAt s 0 .state)
+withSent s x = withSenderState s x (senderAt s 0 .state)
 
 abbrev pub withEnabled : Simulation → (Enabled → Enabled) → Simulation
-withEnabled s f = senderWith s (senderAt s 0 .«packets_sent») (changed f (senderAt s 0 .state))
+withEnabled s f = withSenderState s (senderAt s 0 .«packets_sent») (changed f (senderAt s 0 .state))
 
 abbrev pub withStarted : Simulation → Float → Simulation
 withStarted s x = withEnabled s (λ e. record { started = timeOf x; «greatest_ack» = e .«greatest_ack»; cwnd = e .cwnd; timer = e .timer })
@@ -193,7 +193,7 @@ abbrev pub withTimer : Simulation → Float → Simulation
 withTimer s x = withEnabled s (λ e. record { started = e .started; «greatest_ack» = e .«greatest_ack»; cwnd = e .cwnd; timer = Some (timeOf x) })
 
 abbrev pub switchedOff : Simulation → Simulation
-switchedOff s = senderWith s (senderAt s 0 .«packets_sent») State.WaitingForEnable
+switchedOff s = withSenderState s (senderAt s 0 .«packets_sent») State.WaitingForEnable
 
 -- toggler 0: on or off, and its next toggle
 abbrev pub withToggle : Simulation → Bool → Float → Simulation
@@ -237,11 +237,11 @@ abbrev pub sending : Simulation → Simulation
 sending s = queuedFor s 1 three
 
 -- the same with a timed policy, and a timer at this time, not before the clock
-abbrev pub timed : Simulation
-timed = withNetwork busy (withPolicy (Timed 64 (power 0)))
+abbrev pub busyTimed : Simulation
+busyTimed = withNetwork busy (withPolicy (Timed 64 (power 0)))
 
 abbrev pub sendingTimed : Float → Simulation
-sendingTimed x = sending (withTimer (withWindow timed 4) x)
+sendingTimed x = sending (withTimer (withWindow busyTimed 4) x)
 
 -- a sender that may not send, queued at its timer
 abbrev pub waitingFor : Simulation → Float → Simulation
@@ -252,8 +252,8 @@ abbrev pub toggling : Float → Simulation
 toggling x = queuedFor (withToggle busy true x) 2 x
 
 -- two senders, of which the second is off until 101
-abbrev pub pair : Simulation
-pair = queuedFor (withToggler (withNetwork busy (withSenders 2)) 1 (record { enabled = false; «next_toggle» = timeOf toggleTime; rng = zeroWords })) 4 toggleTime
+abbrev pub twoSenders : Simulation
+twoSenders = queuedFor (withToggler (withNetwork busy (withSenderCount 2)) 1 (record { enabled = false; «next_toggle» = timeOf toggleTime; rng = zeroWords })) 4 toggleTime
 
 -- the link queued, so that another part may be next
 abbrev pub linkQueued : Simulation
@@ -419,8 +419,8 @@ unfit =
     -- or queued below the clock. (At another part's place a NaN or a time above 2^41 is never alone: it is no own next time, or it is a start, a due time, a timer or a toggle.)
     ∷ Fit (toggling three)
     ∷ Unfit (heldQueue ∷ []) (toggling (power 1))
-    ∷ Fit (waitingFor timed three)
-    ∷ Unfit (heldQueue ∷ []) (waitingFor timed (power 1))
+    ∷ Fit (waitingFor busyTimed three)
+    ∷ Unfit (heldQueue ∷ []) (waitingFor busyTimed (power 1))
     -- At the next part's own place, which no other test reads:
     ∷ Fit (queuedFor busy 0 three)
     ∷ Fit (queuedFor busy 0 (power 41))
@@ -477,7 +477,7 @@ unfit =
     ∷ Fit (sending (withWindow busy 64))
     ∷ Unfit (window ∷ []) (sending (withWindow busy 65))
     -- A timer held while off (an off sender's type holds none) or not timed.
-    ∷ Fit (waitingFor timed (power 2))
+    ∷ Fit (waitingFor busyTimed (power 2))
     ∷ Unfit (timer ∷ []) (waitingFor busy (power 2))
     -- Toggler and sender disagreeing on on/off.
     ∷ Unfit (toggler ∷ []) (withToggle busy false toggleTime)
@@ -506,9 +506,9 @@ unfit =
     ∷ Unfit (others ∷ []) (withQueued busy 2 None)
     ∷ Unfit (others ∷ []) (withNext quiet Next.None)
     -- Every sender of the network is read, and none above them.
-    ∷ Fit pair
-    ∷ Unfit (total ∷ rttSum ∷ []) (withMeter pair 1 noMeter)
-    ∷ Unfit (heldToggle ∷ others ∷ []) (withToggler pair 1 noToggler)
+    ∷ Fit twoSenders
+    ∷ Unfit (total ∷ rttSum ∷ []) (withMeter twoSenders 1 noMeter)
+    ∷ Unfit (heldToggle ∷ others ∷ []) (withToggler twoSenders 1 noToggler)
     ∷ Fit (withMeter busy 1 noMeter)
     ∷ Fit (withToggler busy 1 noToggler)
     -- In no clause: waiting bits above the limit, a packet held twice, a greatest ack above sent.

@@ -9,7 +9,7 @@ use Rattle.quantities.specs.declared.time.Time.{Time}
 use Rattle.quantities.specs.Doubles.{zeroF, power}
 use Rattle.quantities.specs.Units.{timeOf, spanOf, rateOf}
 use Rattle.rand.specs.declared.distribution.ContinuousDistribution.the-variants.{Always}
-use Rattle.meters.specs.declared.flow.Rtt.the-variants.{Known}
+use Rattle.flows.specs.declared.flow.Rtt.the-variants.{Known}
 use Rattle.meters.specs.Meter.{readOf}
 use Rattle.link.specs.declared.link.Limit.the-variants as Limit
 use Rattle.sender.specs.declared.lossy.Policy.the-variants.{Held}
@@ -48,12 +48,12 @@ toldOf n s = map told (ticksOf n s)
 -- ---- a printed line: a tick that moved, with number 0
 
 -- the double of 64 bits, as a moment
-abbrev pub at : ℕ → Time
-at bits = timeOf (ofBits binary64 bits)
+abbrev pub momentOf : ℕ → Time
+momentOf bits = timeOf (ofBits binary64 bits)
 
-abbrev pub line : ℕ → ℕ → Mark → Name → Name → Told
-line time part mark packet started =
-    record { number = 0; moved = true; note = record { time = at time; part = part; mark = mark; packet = packet; started = started } }
+abbrev pub toldLine : ℕ → ℕ → Mark → Name → Name → Told
+toldLine time part mark packet started =
+    record { number = 0; moved = true; note = record { time = momentOf time; part = part; mark = mark; packet = packet; started = started } }
 
 -- packet i:n
 abbrev pub packet : ℕ → ℕ → Name
@@ -88,18 +88,18 @@ example =
     (buildOf worked 1 .number ≡ 0)
     -- the seven lines
     ∷ (toldOf 7 (workedAfter 0)
-    ≡ line 0x3ff0000000000000 2 Mark.Enabled none none
-    ∷ line 0x3ff0000000000000 1 Mark.Sent (packet 0 1) none
-    ∷ line 0x3ff0000000000000 0 Mark.None none (packet 0 1)
-    ∷ line 0x3ff0000000000000 1 Mark.Sent (packet 0 2) none
-    ∷ line 0x3ff0000000000000 1 Mark.Full (packet 0 3) none
-    ∷ line 0x4000000000000000 0 Mark.Counted (packet 0 1) (packet 0 2)
-    ∷ line 0x4000000000000000 1 Mark.Sent (packet 0 4) none
+    ≡ toldLine 0x3ff0000000000000 2 Mark.Enabled none none
+    ∷ toldLine 0x3ff0000000000000 1 Mark.Sent (packet 0 1) none
+    ∷ toldLine 0x3ff0000000000000 0 Mark.None none (packet 0 1)
+    ∷ toldLine 0x3ff0000000000000 1 Mark.Sent (packet 0 2) none
+    ∷ toldLine 0x3ff0000000000000 1 Mark.Full (packet 0 3) none
+    ∷ toldLine 0x4000000000000000 0 Mark.Counted (packet 0 1) (packet 0 2)
+    ∷ toldLine 0x4000000000000000 1 Mark.Sent (packet 0 4) none
     ∷ [])
     -- stop=0 clock=4008000000000000
     ∷ (runOf 7 (workedAfter 0) .done ≡ 7)
     ∷ (runOf 7 (workedAfter 0) .number ≡ 0)
-    ∷ (workedAfter 7 .head .clock ≡ at 0x4008000000000000)
+    ∷ (workedAfter 7 .head .clock ≡ momentOf 0x4008000000000000)
     -- flow=0 sent=4 counted=1 rate=4010000000000000 rtt=3ff0000000000000
     ∷ (senderAt (workedAfter 7) 0 .«packets_sent» ≡ 4)
     ∷ (meterAt (workedAfter 7) 0 .records ≡ 1)
@@ -128,11 +128,11 @@ abbrev pub noDelay : List (Type 0)
 noDelay =
     (buildOf nearby 1 .number ≡ 0)
     ∷ (toldOf 6 (buildOf nearby 1 .simulation)
-    ≡ line 0x3ff0000000000000 2 Mark.Enabled none none
-    ∷ line 0x3ff0000000000000 1 Mark.Sent (packet 0 1) none
-    ∷ line 0x3ff0000000000000 0 Mark.None none (packet 0 1)
-    ∷ line 0x3ff0000000000000 0 Mark.Counted (packet 0 1) none
-    ∷ line 0x3ff0000000000000 1 Mark.Sent (packet 0 2) none
-    ∷ line 0x4000000000000000 0 Mark.None none (packet 0 2)
+    ≡ toldLine 0x3ff0000000000000 2 Mark.Enabled none none
+    ∷ toldLine 0x3ff0000000000000 1 Mark.Sent (packet 0 1) none
+    ∷ toldLine 0x3ff0000000000000 0 Mark.None none (packet 0 1)
+    ∷ toldLine 0x3ff0000000000000 0 Mark.Counted (packet 0 1) none
+    ∷ toldLine 0x3ff0000000000000 1 Mark.Sent (packet 0 2) none
+    ∷ toldLine 0x4000000000000000 0 Mark.None none (packet 0 2)
     ∷ [])
     ∷ []

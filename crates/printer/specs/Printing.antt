@@ -16,41 +16,41 @@ use Rattle.printer.specs.declared.Put.{Put}
 use Rattle.printer.specs.declared.Put.the-variants as P
 
 -- a packet is sender:sequence, or absent
-abbrev pub packetOf : Named → List ℕ
-packetOf N.None = dash ∷ []
-packetOf (N.Packet sender sequence) = decimalOf sender ++ ((colon ∷ []) ++ decimalOf sequence)
+abbrev pub packetText : Named → List ℕ
+packetText N.None = dash ∷ []
+packetText (N.Packet sender sequence) = decimalOf sender ++ ((colon ∷ []) ++ decimalOf sequence)
 
 -- a rate or an RTT is a double, or absent
-abbrev pub measuredOf : Measured → List ℕ
-measuredOf M.None = dash ∷ []
-measuredOf (M.Bits v) = hexOf v
+abbrev pub measuredText : Measured → List ℕ
+measuredText M.None = dash ∷ []
+measuredText (M.Bits v) = hexOf v
 
 -- a tick's record: `time=H part=P mark=M packet=S:Q line=S:Q`
-unfoldable pub recordOf : ℕ → ℕ → ℕ → Named → Named → List ℕ
-recordOf time part mark packet line =
+unfoldable pub recordText : ℕ → ℕ → ℕ → Named → Named → List ℕ
+recordText time part mark packet line =
     (timeWord ++ hexOf time)
     ++ (partWord ++ decimalOf part)
     ++ (markWord ++ (mark ∷ []))
-    ++ (packetWord ++ packetOf packet)
-    ++ (lineWord ++ packetOf line)
+    ++ (packetWord ++ packetText packet)
+    ++ (lineWord ++ packetText line)
     ++ (lf ∷ [])
 
 -- the end of a run: `stop=N clock=H`
-unfoldable pub stopOf : ℕ → ℕ → List ℕ
-stopOf number clock = (stopWord ++ decimalOf number) ++ (clockWord ++ hexOf clock) ++ (lf ∷ [])
+unfoldable pub stopText : ℕ → ℕ → List ℕ
+stopText number clock = (stopWord ++ decimalOf number) ++ (clockWord ++ hexOf clock) ++ (lf ∷ [])
 
 -- a refused build, or a malformed description: `stop=N`
-unfoldable pub refusedOf : ℕ → List ℕ
-refusedOf number = (stopWord ++ decimalOf number) ++ (lf ∷ [])
+unfoldable pub refusedText : ℕ → List ℕ
+refusedText number = (stopWord ++ decimalOf number) ++ (lf ∷ [])
 
 -- a flow: `flow=I sent=N counted=N rate=H rtt=H`
-unfoldable pub flowOf : ℕ → ℕ → ℕ → Measured → Measured → List ℕ
-flowOf flow sent counted rate rtt =
+unfoldable pub flowText : ℕ → ℕ → ℕ → Measured → Measured → List ℕ
+flowText flow sent counted rate rtt =
     (flowWord ++ decimalOf flow)
     ++ (sentWord ++ decimalOf sent)
     ++ (countedWord ++ decimalOf counted)
-    ++ (rateWord ++ measuredOf rate)
-    ++ (rttWord ++ measuredOf rtt)
+    ++ (rateWord ++ measuredText rate)
+    ++ (rttWord ++ measuredText rtt)
     ++ (lf ∷ [])
 
 -- out with the bytes s in it from the position at

@@ -4,7 +4,7 @@ ghost use mathlib.Core.Path.{_≡_};
 ghost use mathlib.Core.List.{[], _∷_, _++_};
 ghost use lib.ListN.{length};
 ghost use Rattle.notation.specs.Notation.{digitByte, digitsOf, hexOf, decimalOf};
-ghost use Rattle.printer.specs.Printing.{Wrote, PutIs, packetOf, measuredOf, recordOf, stopOf, refusedOf, flowOf};
+ghost use Rattle.printer.specs.Printing.{Wrote, PutIs, packetText, measuredText, recordText, stopText, refusedText, flowText};
 
 // The position after the line, or too little room.
 pub enum Put {
@@ -117,7 +117,7 @@ fn put_letter(out: &mut [u8], at: usize, key: &[u8], b: u8) -> usize
 // A word and a packet. The sequence is put where 20 digits have room, though it has at most 10.
 fn put_packet(out: &mut [u8], at: usize, key: &[u8], packet: Named) -> usize
     requires { ⌜ at + (length (now key) + 31) ≤ length (now out) ⌝ }
-    ensures { λ r. ⌜ Wrote (length (now (key .entry)) + 21) (now (key .entry) ++ packetOf packet) (now (out .entry)) at r (now (out .exit)) ⌝ }
+    ensures { λ r. ⌜ Wrote (length (now (key .entry)) + 21) (now (key .entry) ++ packetText packet) (now (out .entry)) at r (now (out .exit)) ⌝ }
 {
     match packet {
         Named::None => put_letter(out, at, key, b'-'),
@@ -131,7 +131,7 @@ fn put_packet(out: &mut [u8], at: usize, key: &[u8], packet: Named) -> usize
 // A word and a rate or an RTT.
 fn put_measured(out: &mut [u8], at: usize, key: &[u8], value: Measured) -> usize
     requires { ⌜ at + (length (now key) + 16) ≤ length (now out) ⌝ }
-    ensures { λ r. ⌜ Wrote (length (now (key .entry)) + 16) (now (key .entry) ++ measuredOf value) (now (out .entry)) at r (now (out .exit)) ⌝ }
+    ensures { λ r. ⌜ Wrote (length (now (key .entry)) + 16) (now (key .entry) ++ measuredText value) (now (out .entry)) at r (now (out .exit)) ⌝ }
 {
     match value {
         Measured::None => put_letter(out, at, key, b'-'),
@@ -156,7 +156,7 @@ pub fn record_line(
     packet: Named,
     line: Named,
 ) -> Put
-    ensures { λ r. ⌜ PutIs (recordOf time part mark packet line) (now (out .entry)) at r (now (out .exit)) ⌝ }
+    ensures { λ r. ⌜ PutIs (recordText time part mark packet line) (now (out .entry)) at r (now (out .exit)) ⌝ }
 {
     if 128 <= left(out.len(), at) {
         let a = put_hex(out, at, b"time=", time);
@@ -172,7 +172,7 @@ pub fn record_line(
 
 // The end of a run.
 pub fn stop_line(out: &mut [u8], at: usize, number: u32, clock: u64) -> Put
-    ensures { λ r. ⌜ PutIs (stopOf number clock) (now (out .entry)) at r (now (out .exit)) ⌝ }
+    ensures { λ r. ⌜ PutIs (stopText number clock) (now (out .entry)) at r (now (out .exit)) ⌝ }
 {
     if 128 <= left(out.len(), at) {
         let a = put_decimal(out, at, b"stop=", number as u64);
@@ -185,7 +185,7 @@ pub fn stop_line(out: &mut [u8], at: usize, number: u32, clock: u64) -> Put
 
 // A refused build, or a malformed description.
 pub fn refused_line(out: &mut [u8], at: usize, number: u32) -> Put
-    ensures { λ r. ⌜ PutIs (refusedOf number) (now (out .entry)) at r (now (out .exit)) ⌝ }
+    ensures { λ r. ⌜ PutIs (refusedText number) (now (out .entry)) at r (now (out .exit)) ⌝ }
 {
     if 128 <= left(out.len(), at) {
         let a = put_decimal(out, at, b"stop=", number as u64);
@@ -205,7 +205,7 @@ pub fn flow_line(
     rate: Measured,
     rtt: Measured,
 ) -> Put
-    ensures { λ r. ⌜ PutIs (flowOf flow sent counted rate rtt) (now (out .entry)) at r (now (out .exit)) ⌝ }
+    ensures { λ r. ⌜ PutIs (flowText flow sent counted rate rtt) (now (out .entry)) at r (now (out .exit)) ⌝ }
 {
     if 128 <= left(out.len(), at) {
         let a = put_decimal(out, at, b"flow=", flow as u64);

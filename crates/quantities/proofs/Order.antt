@@ -5,10 +5,9 @@
 use mathlib.Core.Path.{_≡_, refl, sym, ap, ap₂, _∙_, subst}
 use mathlib.Core.Logic.{_⊎_, inl, inr, ⊎-elim}
 use Prim.Native.Nat.{ℕ, zero, suc, _+_, _-_, _*_, _/_, _^_, _≤_}
-use native.Mathlib.Nat.{zero-add, add-zero, suc-add, add-comm, zero-mul, mul-comm, mul-assoc, mul-left-comm, mul-right-comm, add-mul, mul-le-mul-right, le-of-mul-le-mul-right, eq-of-mul-eq-mul-right}
+use native.Mathlib.Nat.{zero-add, add-zero, suc-add, add-comm, zero-mul, mul-comm, mul-assoc, mul-left-comm, mul-right-comm, add-mul, mul-le-mul-right, le-of-mul-le-mul-right}
 use native.Mathlib.Omega.{arith}
-use mathlib.Core.Bool.{Bool, true, false, not, _&&_, _||_, Bool·beq, cond, or-true, Bool·not-not, and-true, and-false, and-comm}
-use lib.IntN.{ℤ}
+use mathlib.Core.Bool.{Bool, true, false, not, _&&_, _||_, Bool·beq, cond, Bool·not-not, and-true, and-false, and-comm}
 use lib.Dec.{T, leb, ltb, eqb, leb·zero, leb·suc-zero, leb·suc-suc, eqb·zero-suc, eqb·suc-zero, eqb·suc-suc, T-not, not-T, leb→le, le→leb, eqb→eq}
 use lib.Ieee.{Float, nan, inf, fin, Format, prec, low, up, down, size, hid, top, lt, le, eq, fits, isNan, toBits, ofBits}
 use lib.Ieee.Fits.{down-pos, and-i, and-l, and-r}
@@ -16,23 +15,13 @@ use lib.Ieee.Bits.{ofBits-toBits}
 use lib.Ieee.Nearest.{div-same}
 use lib.Ieee.Scale.{finite}
 use lib.Ieee.Positive.{num, den, den-pos}
-use Rattle.quantities.specs.Doubles.{zeroF, later, earlier, negative}
+use Rattle.quantities.specs.Doubles.{later, earlier, negative}
 
 -- ---- tests of Bools and of natural numbers
-
-or-split : (a b : Bool) → T (a || b) → T a ⊎ T b
-or-split true b t = inl tt
-or-split false b t = inr t
 
 or-l : (a b : Bool) → T a → T (a || b)
 or-l true b t = tt
 or-l false b t = absurd t
-
-beq→eq : (s t : Bool) → T (Bool·beq s t) → s ≡ t
-beq→eq true true h = refl
-beq→eq true false h = absurd h
-beq→eq false true h = absurd h
-beq→eq false false h = refl
 
 -- `leb` by the other two tests, and each of them by `leb`
 leb-is : (m n : ℕ) → (ltb m n || eqb m n) ≡ leb m n
@@ -227,11 +216,6 @@ lt-le-trans x y z h k =
     not-le→lt x z (lt-known-l x y h) (le-known-r y z k)
     (not-T (le z x) (λ (l : T (le z x)). T-not (le y x) (lt→not-le x y h) (le-trans y z x k l)))
 
-pub le-lt-trans : (x y z : Float) → T (le x y) → T (lt y z) → T (lt x z)
-le-lt-trans x y z h k =
-    not-le→lt x z (le-known-l x y h) (lt-known-r y z k)
-    (not-T (le z x) (λ (l : T (le z x)). T-not (le z y) (lt→not-le y z k) (le-trans z x y l h)))
-
 pub lt-trans : (x y z : Float) → T (lt x y) → T (lt y z) → T (lt x z)
 lt-trans x y z h k = lt-le-trans x y z h (lt→le y z k)
 
@@ -251,9 +235,6 @@ eq→ge x y h = and-r (le x y) (le y x) (rw (eq-is x y) at h)
 
 pub eq-refl : (x : Float) → T (not (isNan x)) → T (eq x x)
 eq-refl x p = le-antisym x x (le-refl x p) (le-refl x p)
-
-pub eq-sym : (x y : Float) → T (eq x y) → T (eq y x)
-eq-sym x y h = le-antisym y x (eq→ge x y h) (eq→le x y h)
 
 pub eq-trans : (x y z : Float) → T (eq x y) → T (eq y z) → T (eq x z)
 eq-trans x y z h k = le-antisym x z (le-trans x y z (eq→le x y h) (eq→le y z k)) (le-trans z y x (eq→ge y z k) (eq→ge x y h))
@@ -282,25 +263,6 @@ same-bits f (fin s m e) (fin t n d) h i =
 
 pub eq→same : (f : Format) (x y : Float) → T (fits f x) → T (fits f y) → T (eq x y) → negative x ≡ negative y → x ≡ y
 eq→same f x y p q h i = sym (ofBits-toBits f x p) ∙ ap (ofBits f) (same-bits f x y h i) ∙ ofBits-toBits f y q
-
--- a size of 0 is zero, with either sign
-zero-eq : (s : Bool) (m : ℕ) (e : ℤ) → m * up e ≡ 0 → T (eq (fin s m e) zeroF)
-unfolding eq
-zero-eq s m e z = simp (z, zero-mul, or-true) tt
-
-pub eq→sign : (x y : Float) → T (eq x y) → (T (eq x zeroF) → ⊥) → negative x ≡ negative y
-unfolding eq
-eq→sign nan y h k = absurd h
-eq→sign (inf s) nan h k = absurd h
-eq→sign (inf s) (inf t) h k = beq→eq s t h
-eq→sign (inf s) (fin t n d) h k = absurd h
-eq→sign (fin s m e) nan h k = absurd h
-eq→sign (fin s m e) (inf t) h k = absurd h
-eq→sign (fin s m e) (fin t n d) h k =
-    let a = m * up e * down d in
-    ⊎-elim (beq→eq s t)
-    (λ (z : T (eqb a 0)). absurd (k (zero-eq s m e (eq-of-mul-eq-mul-right (down d) (down-pos d) (m * up e) 0 (eqb→eq a 0 z ∙ sym (zero-mul (down d)))))))
-    (or-split (Bool·beq s t) (eqb a 0) (and-r (eqb a (n * up d * down e)) (Bool·beq s t || eqb a 0) h))
 
 -- ---- the later and the earlier of two
 

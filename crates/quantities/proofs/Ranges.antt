@@ -1,24 +1,23 @@
--- The ranges of sums, differences, products and quotients of finite doubles that are not below zero: due times, sending times, sums and means of samples.
+-- The ranges of sums, differences and quotients of finite doubles that are not below zero: due times, sending times, sums of samples.
 -- `within x hi` says that x is in 0..hi. A bound of a result is an inequality of fractions (`Values`), or it is the result at the ends of the operands' ranges.
 -- Assumes nothing.
 use mathlib.Core.Path.{_≡_, refl, sym, ap, _∙_, subst}
 use mathlib.Core.Bool.{true, false}
 use Prim.Native.Nat.{ℕ, suc, _+_, _-_, _*_, _^_, _≤_, _<_}
 use native.Mathlib.Nat
-use native.Mathlib.Nat.{le-add-right, le-add-left, le-of-eq, mul-comm, mul-assoc, mul-left-comm, mul-mul-mul-comm, add-mul, suc-mul, mul-one, one-mul, zero-mul, mul-le-mul, mul-le-mul-right, add-le-add, le-of-mul-le-mul-right, sub-le, sub-add-cancel, le-of-lt, lt-of-not-le, lt-of-mul-lt-mul-right, lt-of-lt-of-le}
+use native.Mathlib.Nat.{le-add-right, le-of-eq, mul-comm, mul-assoc, mul-left-comm, add-mul, suc-mul, mul-one, one-mul, zero-mul, mul-le-mul, mul-le-mul-right, add-le-add, sub-le, le-of-lt, lt-of-lt-of-le}
 use native.Mathlib.Omega.{arith}
-use native.Mathlib.Decide.{decLe}
 use lib.IntN.{pos, negsuc}
 use lib.Dec.{T, lit≤, lit<}
-use lib.Pow.{pow-add, pow-pos, pow-mono, shl-lt, le-ones}
-use lib.Ieee.{Float, nan, inf, fin, Format, binary64, up, down, round, add, sub, mul, div, lt, le, eq, ofInt, fits}
-use lib.Ieee.Fits.{down-pos, and-l, and-r}
+use lib.Pow.{pow-add, pow-mono, shl-lt}
+use lib.Ieee.{Float, fin, Format, binary64, round, add, sub, mul, div, lt, le, eq, ofInt, fits}
+use lib.Ieee.Fits.{and-l, and-r}
 use lib.Ieee.Back.{round-whole}
 use lib.Ieee.Scale.{finite}
 use lib.Ieee.Positive.{num, den, den-pos}
-use Rattle.quantities.specs.Doubles.{zeroF, power, largest, inRange}
+use Rattle.quantities.specs.Doubles.{zeroF, power, inRange}
 use Rattle.quantities.proofs.Order
-use Rattle.quantities.proofs.Values.{Is, Held, Rounds, own, le-is, is-le, value-is, zero-is, negative-le, above-zero, finite-between, finite-known, fits-held, held-rounds, fits-rounds, rounds-exact, rounds-mono, rounds-eq, rounds-above, rounds-below, rounds-from-zero, add-rounds, sub-rounds, mul-rounds, div-rounds}
+use Rattle.quantities.proofs.Values.{Is, Held, Rounds, own, le-is, value-is, zero-is, finite-between, finite-known, held-rounds, fits-rounds, rounds-exact, rounds-mono, rounds-eq, rounds-above, rounds-below, rounds-from-zero, add-rounds, sub-rounds, mul-rounds, div-rounds}
 
 -- ---- in 0..hi
 
@@ -60,32 +59,11 @@ sum-order a c a' c' b d b' d' h k =
     let r : b * c * (c' * d') ≤ b' * c' * (c * d) = rw (mul-comm c' d', mul-comm c d) (widen b d b' d' c c' k) in
     rw (add-mul (a * d) (b * c) (c' * d'), add-mul (a' * d') (b' * c') (c * d)) (add-le-add l r)
 
-product-order : (a c a' c' b d b' d' : ℕ) → a * c' ≤ a' * c → b * d' ≤ b' * d → a * b * (c' * d') ≤ a' * b' * (c * d)
-product-order a c a' c' b d b' d' h k = rw (mul-mul-mul-comm a b c' d', mul-mul-mul-comm a' b' c d) (mul-le-mul h k)
-
 pub add-mono : (f : Format) (x x' y y' : Float) → within x x' → within y y' → T (finite x') → T (finite y')
     → T (le (add f x y) (add f x' y'))
 add-mono f x x' y y' v w s t =
     rounds-mono (add-rounds f (within-is x x' v s) (within-is y y' w t)) (add-rounds f (end-is x x' v s) (end-is y y' w t))
     (sum-order (num x) (den x) (num x') (den x') (num y) (den y) (num y') (den y') (ends-order x x' v s) (ends-order y y' w t))
-
-pub mul-mono : (f : Format) (x x' y y' : Float) → within x x' → within y y' → T (finite x') → T (finite y')
-    → T (le (mul f x y) (mul f x' y'))
-mul-mono f x x' y y' v w s t =
-    rounds-mono (mul-rounds f (within-is x x' v s) (within-is y y' w t)) (mul-rounds f (end-is x x' v s) (end-is y y' w t))
-    (product-order (num x) (den x) (num x') (den x') (num y) (den y) (num y') (den y') (ends-order x x' v s) (ends-order y y' w t))
-
--- the quotient grows with x, and shrinks as y grows
-pub div-mono : (f : Format) (x x' y y' : Float) → within x x' → T (lt zeroF y') → T (le y' y) → T (finite x') → T (finite y)
-    → T (le (div f x y) (div f x' y'))
-div-mono f x x' y y' v u w s t =
-    let r : within y' y = (Order.lt→le zeroF y' u, w) in
-    let q : Is y (num y) (den y) = end-is y' y r t in
-    let q' : Is y' (num y') (den y') = within-is y' y r t in
-    let k : den y * num y' ≤ den y' * num y = rw (mul-comm (den y) (num y'), mul-comm (den y') (num y)) (ends-order y' y r t) in
-    rounds-mono (div-rounds f (within-is x x' v s) q (above-zero q (Order.lt-le-trans zeroF y' y u w))) (div-rounds f (end-is x x' v s) q' (above-zero q' u))
-    (rw (mul-comm (num y') (den x'), mul-comm (num y) (den x))
-    (product-order (num x) (den x) (num x') (den x') (den y) (num y) (den y') (num y') (ends-order x x' v s) k))
 
 -- ---- sums
 
@@ -98,12 +76,6 @@ add-above f x y h s v t w = rounds-above f h (own x s v) (add-rounds f (own x s 
   where
     go : (a c b d : ℕ) → a * (c * d) ≤ (a * d + b * c) * c
     go a c b d = rw (add-mul (a * d) (b * c) c, mul-assoc a d c, mul-comm d c) (le-add-right (a * (c * d)) (b * c * c))
-
-pub add-above-right : (f : Format) (x y : Float) → T (fits f y) → T (finite x) → T (le zeroF x) → T (finite y) → T (le zeroF y) → T (le y (add f x y))
-add-above-right f x y h s v t w = rounds-above f h (own y t w) (add-rounds f (own x s v) (own y t w)) (go (num x) (den x) (num y) (den y))
-  where
-    go : (a c b d : ℕ) → b * (c * d) ≤ (a * d + b * c) * d
-    go a c b d = rw (add-mul (a * d) (b * c) d, mul-assoc b c d) (le-add-left (b * (c * d)) (a * d * d))
 
 pub add-zero : (f : Format) (x : Float) → T (fits f x) → T (finite x) → T (le zeroF x) → T (eq (add f x zeroF) x)
 add-zero f x h s v = rounds-eq (add-rounds f (own x s v) zero-is) (fits-rounds f h (own x s v)) (go (num x) (den x))
@@ -138,43 +110,6 @@ due-fine c d h v w = due-far c d h v (within-wider d (power 24) (power 40) w (un
 pub due-order : (f : Format) (c c' d : Float) → within c c' → T (finite c') → T (finite d) → T (le zeroF d) → T (le (add f c d) (add f c' d))
 due-order f c c' d v s t w = add-mono f c c' d d v (w, Order.le-refl d (finite-known d t)) s t
 
--- ---- the largest double, which takes in any span up to 2 ^ 41
-
--- q of at most p digits, times 2 ^ j, and below 2 ^ (p + t): at most p digits that are all set, times 2 ^ t
-most-units : (p t q j : ℕ) → q < 2 ^ p → q * 2 ^ j < 2 ^ (p + t) → q * 2 ^ j ≤ (2 ^ p - 1) * 2 ^ t
-most-units p t q j h k = go (decLe j t)
-  where
-    go : Dec (j ≤ t) → q * 2 ^ j ≤ (2 ^ p - 1) * 2 ^ t
-    go (yes l) = mul-le-mul (le-ones p h) (pow-mono l)
-    go (no l) =
-        let i = j - t in
-        let g : 2 ^ j ≡ 2 ^ i * 2 ^ t = ap (λ (z : ℕ). 2 ^ z) (sym (sub-add-cancel (le-of-lt (lt-of-not-le l)))) ∙ pow-add 2 i t in
-        let e : q * 2 ^ j ≡ q * 2 ^ i * 2 ^ t = ap (λ (z : ℕ). q * z) g ∙ sym (mul-assoc q (2 ^ i) (2 ^ t)) in
-        rw e (mul-le-mul-right (2 ^ t) (le-ones p (lt-of-mul-lt-mul-right (2 ^ t) (rw (e, pow-add) at k))))
-
--- a / d is n of the parts of which 1 has l
-rescaled : (a d n m t l : ℕ) → 0 < l → a * l ≡ n * d → n ≤ m * (t * l) → a * 1 ≤ m * t * d
-rescaled a d n m t l L e h =
-    le-of-mul-le-mul-right (rw (mul-one, e) (Nat.le-trans (mul-le-mul-right d h) (le-of-eq (simp (mul-assoc, mul-comm l d))))) L
-
-pub fits-most : (x : Float) → T (fits binary64 x) → T (finite x) → T (le x largest)
-fits-most nan h t = absurd t
-fits-most (inf s) h t = absurd t
-fits-most (fin true m e) h t = Order.le-trans (fin true m e) zeroF largest (negative-le m e) (unfold le in tt)
-fits-most (fin false m e) h t =
-    let p : Is (fin false m e) (m * up e) (down e) = value-is (fin false m e) false (down-pos e) absurd (refl, refl) in
-    let k = fits-held binary64 h p in
-    is-le p (own largest tt (unfold le in tt))
-    (rescaled (m * up e) (down e) (k .digits * 2 ^ k .place) (2 ^ 53 - 1) (2 ^ 971) (2 ^ 1074) (pow-pos 1074) (k .same)
-    (most-units 53 (971 + 1074) (k .digits) (k .place) (k .short) (k .under)))
-
-pub absorbs : (t d : Float) → T (fits binary64 t) → T (finite t) → T (le zeroF t) → within d (power 41)
-    → T (finite (add binary64 t d)) × T (le t (add binary64 t d))
-absorbs t d h s v w = (
-  add-within binary64 t largest d (power 41) largest (v, fits-most t h s) w tt tt (unfold add le in tt) tt .0,
-  add-above binary64 t d h s v (within-finite d (power 41) w tt) (w .0),
-)
-
 -- ---- differences
 
 pub sub-within : (f : Format) (x y : Float) → T (fits f x) → T (finite x) → within y x → T (finite (sub f x y)) × within (sub f x y) x
@@ -187,10 +122,7 @@ sub-within f x y h s w =
     go : (a c b d : ℕ) → (a * d - b * c) * c ≤ a * (c * d)
     go a c b d = Nat.le-trans (mul-le-mul-right c (sub-le (a * d) (b * c))) (le-of-eq (mul-assoc a d c ∙ ap (λ (z : ℕ). a * z) (mul-comm d c)))
 
--- ---- products, and the sending time of n bits at the rate r
-
-pub mul-from-zero : (f : Format) (x y : Float) → T (finite x) → T (le zeroF x) → T (finite y) → T (le zeroF y) → T (le zeroF (mul f x y))
-mul-from-zero f x y s v t w = rounds-from-zero (mul-rounds f (own x s v) (own y t w))
+-- ---- the sending time of n bits at the rate r
 
 pub whole-is : (n : ℕ) → n ≤ 2 ^ 53 → Is (ofInt binary64 (pos n)) n 1
 unfolding ofInt
@@ -221,7 +153,7 @@ sending n r h k v w =
         let e : c * p ≤ n * c * p = rw (mul-assoc n c p) (rw one-mul at (mul-le-mul-right (c * p) h)) in
         simp (one-mul, mul-one) (Nat.le-trans l (rw (mul-comm p c) e))
 
--- ---- sums and means of n samples that are up to 2 ^ k each
+-- ---- sums of n samples that are up to 2 ^ k each
 
 -- n * 2 ^ k. For an n up to 2 ^ 52 it is a double, so this bound of a sum of n is not rounded
 abbrev pub limit : ℕ → ℕ → Float
@@ -245,14 +177,6 @@ limit-held k n h m =
 pub limit-is : (k n : ℕ) → k ≤ 971 → n ≤ 2 ^ 52 → Is (limit k n) (n * 2 ^ k) 1
 limit-is k n h m = rounds-exact (mul-rounds binary64 (whole-is n (Nat.le-trans m (lit≤ tt))) (power-is k)) (limit-held k n h m)
 
-pub limit-finite : (k n : ℕ) → k ≤ 971 → n ≤ 2 ^ 52 → T (finite (limit k n))
-limit-finite k n h m = limit-is k n h m .bounded
-
--- a sum begins at 0
-pub limit-zero : (k : ℕ) → limit k 0 ≡ zeroF
-unfolding ofInt mul
-limit-zero k = ap (λ (z : ℕ). round binary64 false z 1) (zero-mul (1 * 2 ^ k))
-
 pub sum-within : (k n : ℕ) (s r : Float) → k ≤ 971 → n < 2 ^ 52 → within s (limit k n) → within r (power k)
     → T (finite (add binary64 s r)) × within (add binary64 s r) (limit k (suc n))
 sum-within k n s r h m v w =
@@ -261,17 +185,3 @@ sum-within k n s r h m v w =
     add-within binary64 s (limit k n) r (power k) (limit k (suc n)) v w (p .bounded) tt
     (rounds-mono (add-rounds binary64 p (power-is k)) (held-rounds (limit-held k (suc n) h m) p') (simp (mul-one, suc-mul) (Nat.le-refl (n * 2 ^ k + 2 ^ k))))
     (p' .bounded)
-
-pub mean-within : (k n : ℕ) (s : Float) → k ≤ 971 → 0 < n → n ≤ 2 ^ 52 → within s (limit k n)
-    → T (finite (div binary64 s (ofInt binary64 (pos n)))) × within (div binary64 s (ofInt binary64 (pos n))) (power k)
-mean-within k n s h z m v =
-    let x = div binary64 s (ofInt binary64 (pos n)) in
-    let p : Is (limit k n) (n * 2 ^ k) 1 = limit-is k n h m in
-    let q : Is s (num s) (den s) = within-is s (limit k n) v (p .bounded) in
-    let d : Rounds binary64 x (num s * 1) (n * den s) = div-rounds binary64 q (whole-is n (Nat.le-trans m (lit≤ tt))) z in
-    let top : Rounds binary64 (power k) (2 ^ k) 1 = held-rounds (rw one-mul at (limit-held k 1 h (lit≤ tt))) (power-is k) in
-    let r : within x (power k) = (rounds-from-zero d, rounds-mono d top (share (num s) (den s) (2 ^ k) (le-is q p (v .1)))) in
-    (within-finite x (power k) r tt, r)
-  where
-    share : (a c u : ℕ) → a * 1 ≤ n * u * c → a * 1 * 1 ≤ u * (n * c)
-    share a c u l = rw (mul-one (a * 1), mul-left-comm u n c, ← mul-assoc n u c) l

@@ -1,27 +1,25 @@
 -- The range of a uniform draw. A sample is k / 2 ^ 52 for a k below 2 ^ 52: finite, not below 0, below 1, and not rounded.
--- A draw is s * (hi - lo) + lo, each operation rounded. For an s in 0..1 and a hi up to 2 ^ 20 it is in 0..2 ^ 20.
--- For a sample s and any finite doubles lo and hi, not below 0 and in order, it is in lo..hi. Assumes nothing.
+-- A draw is s * (hi - lo) + lo, each operation rounded. For an s in 0..1 and a hi up to 2 ^ 20 it is in 0..2 ^ 20. Assumes nothing.
 use mathlib.Core.Path.{_≡_, refl, sym, ap, ap₂, _∙_}
 use mathlib.Core.Logic.{_⊎_, inl, inr}
 use mathlib.Core.Bool.{false, not}
 use Prim.Native.Nat.{ℕ, suc, _+_, _-_, _*_, _/_, _%_, _^_, _≤_, _<_, compare}
 use native.Mathlib.Nat
-use native.Mathlib.Nat.{le-of-eq, le-of-lt, lt-of-lt-of-le, lt-of-le-of-lt, eq-or-lt-of-le, mul-comm, mul-assoc, mul-left-comm, mul-right-comm, mul-one, one-mul, mul-le-mul-right, mul-le-mul-left, div-mul-le-self, div-lt-iff-lt-mul, le-div-iff-mul-le, div-div-eq-div-mul, suc-mul, add-mul, le-add-right, sub-add-cancel, sub-le, le-of-mul-le-mul-right, mul-lt-mul-of-pos-right, add-le-add, mul-pos, mul-le-mul, lt-of-not-le}
+use native.Mathlib.Nat.{le-of-eq, le-of-lt, lt-of-lt-of-le, eq-or-lt-of-le, mul-comm, mul-assoc, mul-left-comm, mul-right-comm, mul-one, one-mul, mul-le-mul-right, mul-le-mul-left, div-mul-le-self, div-lt-iff-lt-mul, suc-mul, add-mul, le-add-right, sub-add-cancel, sub-le, le-of-mul-le-mul-right, mul-lt-mul-of-pos-right, add-le-add}
 use native.Mathlib.Omega.{arith}
-use native.Mathlib.Decide.{decLe}
 use lib.IntN.{pos}
-use lib.Dec.{T, not-T, lit≤, lit<}
+use lib.Dec.{T, not-T, lit≤}
 use lib.Pow.{pow-add, pow-pos, pow-mono, shl-lt}
 use lib.Ieee.{Float, Format, binary64, low, size, round, add, sub, mul, div, lt, le, eq, ofInt, fits}
-use lib.Ieee.Fits.{nearest-le, kept-lt, sub-fits}
-use lib.Ieee.Digits.{size-le, size-reaches}
+use lib.Ieee.Fits.{nearest-le, sub-fits}
+use lib.Ieee.Digits.{size-le}
 use lib.Ieee.Order.{drop, kept}
-use lib.Ieee.Scale.{finite, grid, overflow, normal-of-fraction, round-val, round-under}
+use lib.Ieee.Scale.{finite, grid, round-val, round-under}
 use lib.Ieee.Positive.{num, den, den-pos}
 use Rattle.quantities.specs.Doubles.{zeroF, power}
 use Rattle.quantities.proofs.Order
-use Rattle.quantities.proofs.Values.{Is, Held, Rounds, own, le-is, value-is, eq-value, finite-between, finite-known, fits-held, exact-is, refit, sub-mul, held-rounds, rounds-exact, rounds-mono, rounds-below, rounds-from-zero, add-rounds, sub-rounds, mul-rounds, div-rounds}
-use Rattle.quantities.proofs.Ranges.{within, within-finite, add-within, add-above-right, sub-within, whole-is, power-is}
+use Rattle.quantities.proofs.Values.{Is, Held, Rounds, own, le-is, value-is, eq-value, finite-between, finite-known, rounds-exact, rounds-mono, rounds-below, rounds-from-zero, add-rounds, sub-rounds, mul-rounds, div-rounds}
+use Rattle.quantities.proofs.Ranges.{within, within-finite, add-within, whole-is, power-is}
 
 -- ---- samples
 
@@ -176,130 +174,3 @@ draw-fine s lo hi v u l =
   where
     short : (a c d g : ℕ) → a ≤ 2 ^ 20 * c → a * d - g ≤ 2 ^ 20 * (c * d)
     short a c d g k = Nat.le-trans (sub-le (a * d) g) (rw (← mul-assoc (2 ^ 20) c d) (mul-le-mul-right d k))
-
--- ---- a draw is in lo..hi
-
-pub draw-from : (s lo hi : Float) → T (fits binary64 lo) → T (fits binary64 hi) → within s (power 0) → within lo hi → T (finite hi)
-    → T (le lo (draw s lo hi))
-draw-from s lo hi g h v u t =
-    let w = sub-within binary64 hi lo h t u in
-    let m = part-within binary64 s (sub binary64 hi lo) v (sub-fits binary64 hi lo) (w .0) (w .1 .0) in
-    add-above-right binary64 (mul binary64 s (sub binary64 hi lo)) lo g (m .0) (m .1 .0) (within-finite lo hi u t) (u .0)
-
--- a value that fits, in smallest values
-units-is : (f : Format) {x : Float} → T (fits f x) → T (finite x) → T (le zeroF x) → (n : ℕ) × (n < overflow f) × Is x n (2 ^ low f)
-units-is f {x} h t u =
-    let k = fits-held f h (own x t u) in
-    (k .digits * 2 ^ k .place, k .under, record { bounded = t; from-zero = u; over = pow-pos (low f); same = k .same })
-
--- where the whole part has at least p digits, what is left has p digits, and it is no more than n / l
-cut-ge : (p n l : ℕ) → 0 < p → 0 < l → p ≤ size (n / l) → 2 ^ (p - 1) ≤ cut p n l
-cut-ge p n l P L full =
-    let k = drop p n l in
-    let a : p - 1 + k < size (n / l) = omega arith in
-    let b : 2 ^ (p - 1 + k) * l ≤ n = le-div-iff-mul-le L .0 (size-reaches (n / l) (p - 1 + k) a) in
-    le-div-iff-mul-le (mul-pos L (pow-pos k)) .1 (rw (mul-comm l (2 ^ k), ← mul-assoc (2 ^ (p - 1)) (2 ^ k) l, ← pow-add) b)
-
-cut-lt : (p n l : ℕ) → cut p n l < 2 ^ p
-cut-lt p n l = rw (← div-div-eq-div-mul n l (2 ^ drop p n l)) (kept-lt p (n / l))
-
-cut-le : (p n l : ℕ) → cut p n l * 2 ^ drop p n l * l ≤ n
-cut-le p n l = let k = drop p n l in rw (mul-assoc (cut p n l) (2 ^ k) l, mul-comm (2 ^ k) l) (div-mul-le-self n (l * 2 ^ k))
-
--- a sample takes at least one part in 2 ^ 52 off, and rounding has added no more
-one-less : (s k q : ℕ) → s < 2 ^ 52 → k ≤ suc q → 2 ^ 52 ≤ q → s * k ≤ q * 2 ^ 52
-one-less s k q h l m =
-    let a : s ≤ 2 ^ 52 - 1 = omega arith in
-    let b : (2 ^ 52 - 1) * suc q ≤ q * 2 ^ 52 = omega arith in
-    Nat.le-trans (mul-le-mul a l) b
-
--- a sample of w
-abbrev share : ℕ → Float → Float
-share k w = mul binary64 (sample k) w
-
--- w is n smallest values, rounded. 1 is 2 ^ 1074 of them. A sample of w is no more than those n
-module _ (k n : ℕ) (w : Float) (small : k < 2 ^ 52) (under : n < overflow binary64)
-    (r : Rounds binary64 w n (2 ^ 1074)) (g : T (fits binary64 w)) (t : T (finite w)) where
-  share-within : T (finite (share k w)) × within (share k w) w
-  share-within = part-within binary64 (sample k) w (sample-within k small) g t (rounds-from-zero r)
-
-  share-is : Is (share k w) (num (share k w)) (den (share k w))
-  share-is = own (share k w) (share-within .0) (share-within .1 .0)
-
-  -- an n of at most 53 digits is w itself
-  if-short : n < 2 ^ 53 → num (share k w) * 2 ^ 1074 ≤ n * den (share k w)
-  if-short h = le-is share-is (rounds-exact r held) (share-within .1 .1)
-    where
-      held : Held binary64 n (2 ^ 1074)
-      held = record { digits = n; place = 0; short = h; under = rw (mul-one n) under; same = ap (λ (z : ℕ). z * 2 ^ 1074) (sym (mul-one n)) }
-
-  -- of a longer n rounding drops digits: w is at most one unit above what is left, so the sample is no more than what is left
-  if-long : 2 ^ 53 ≤ n → num (share k w) * 2 ^ 1074 ≤ n * den (share k w)
-  if-long h = Nat.le-trans (le-is share-is exact below) (mul-le-mul-right (den (share k w)) fewer)
-    where
-      whole : ℕ
-      whole = n * 2 ^ 1074
-
-      left : ℕ
-      left = cut 53 whole (2 ^ 1074)
-
-      place : ℕ
-      place = drop 53 whole (2 ^ 1074)
-
-      full : 53 ≤ size (whole / 2 ^ 1074)
-      full = normal-of-fraction binary64 n (2 ^ 1074) (pow-pos 1074) (mul-le-mul-right {m = 2 ^ 52} (2 ^ 1074) (Nat.le-trans (lit≤ tt) h))
-
-      fewer : left * 2 ^ place ≤ n
-      fewer = le-of-mul-le-mul-right (cut-le 53 whole (2 ^ 1074)) (pow-pos 1074)
-
-      held : Held binary64 (left * 2 ^ place) (2 ^ 1074)
-      held = record { digits = left; place = place; short = cut-lt 53 whole (2 ^ 1074); under = lt-of-le-of-lt fewer under; same = refl }
-
-      exact : Is (round binary64 false (left * 2 ^ place) (2 ^ 1074)) (left * 2 ^ place) (2 ^ 1074)
-      exact = exact-is false (pow-pos 1074) absurd held
-
-      scaled : (a b q u v l : ℕ) → a * b ≤ q * v → a * (b * u) * l ≤ q * u * (v * l)
-      scaled a b q u v l c = simp mul-assoc (simp (mul-assoc, mul-left-comm) at (mul-le-mul-right (u * l) c))
-
-      less : k * kept 53 whole (2 ^ 1074) ≤ left * 2 ^ 52
-      less = one-less k (kept 53 whole (2 ^ 1074)) left small (kept-le 53 whole (2 ^ 1074)) (cut-ge 53 whole (2 ^ 1074) (lit< tt) (pow-pos 1074) full)
-
-      below : T (le (share k w) (round binary64 false (left * 2 ^ place) (2 ^ 1074)))
-      below =
-          rounds-mono (mul-rounds binary64 (sample-is k small) (rounded-is r t)) (held-rounds held exact)
-          (scaled k (kept 53 whole (2 ^ 1074)) left (2 ^ place) (2 ^ 52) (2 ^ 1074) less)
-
-  share-below : num (share k w) * 2 ^ 1074 ≤ n * den (share k w)
-  share-below = elim (decLe (2 ^ 53) n) [ yes h ↦ if-long h | no h ↦ if-short (lt-of-not-le h) ]
-
-pub draw-to : (k : ℕ) (lo hi : Float) → k < 2 ^ 52 → T (fits binary64 lo) → T (fits binary64 hi) → within lo hi → T (finite hi)
-    → T (le (draw (sample k) lo hi) hi)
-draw-to k lo hi small g h u t =
-    let a = units-is binary64 g (within-finite lo hi u t) (u .0) in
-    let b = units-is binary64 h t (Order.le-trans zeroF lo hi (u .0) (u .1)) in
-    let w = sub binary64 hi lo in
-    let r : Rounds binary64 w (b .0 - a .0) (2 ^ 1074) = refit (sub-rounds binary64 (b .2) (a .2) (u .1)) (pow-pos 1074) (width (b .0) (a .0) (2 ^ 1074)) in
-    let under : b .0 - a .0 < overflow binary64 = lt-of-le-of-lt (sub-le (b .0) (a .0)) (b .1) in
-    let f : T (fits binary64 w) = sub-fits binary64 hi lo in
-    let v : T (finite w) = sub-within binary64 hi lo h t u .0 in
-    let order : a .0 ≤ b .0 = le-of-mul-le-mul-right (le-is (a .2) (b .2) (u .1)) (pow-pos 1074) in
-    let x = share k w in
-    rounds-below binary64 h (b .2) (add-rounds binary64 (share-is k (b .0 - a .0) w small under r f v) (a .2))
-    (sums (num x) (den x) (a .0) (b .0) (2 ^ 1074) order (share-below k (b .0 - a .0) w small under r f v))
-  where
-    width : (m n l : ℕ) → (m * l - n * l) * l ≡ (m - n) * (l * l)
-    width m n l = ap (λ (z : ℕ). z * l) (sym (sub-mul m n l)) ∙ mul-assoc (m - n) l l
-
-    sums : (x d m n l : ℕ) → m ≤ n → x * l ≤ (n - m) * d → (x * l + m * d) * l ≤ n * (d * l)
-    sums x d m n l o c =
-        let e : (n - m) * d + m * d ≡ n * d = sym (add-mul (n - m) m d) ∙ ap (λ (z : ℕ). z * d) (sub-add-cancel o) in
-        rw (← mul-assoc n d l, ← e) (mul-le-mul-right l (add-le-add c (Nat.le-refl (m * d))))
-
--- both, for a sample
-pub draw-between : (k : ℕ) (lo hi : Float) → k < 2 ^ 52 → T (fits binary64 lo) → T (fits binary64 hi) → within lo hi → T (finite hi)
-    → T (finite (draw (sample k) lo hi)) × T (le lo (draw (sample k) lo hi)) × T (le (draw (sample k) lo hi) hi)
-draw-between k lo hi small g h u t =
-    let x = draw (sample k) lo hi in
-    let from : T (le lo x) = draw-from (sample k) lo hi g h (sample-within k small) u t in
-    let to : T (le x hi) = draw-to k lo hi small g h u t in
-    (finite-between x hi (Order.le-trans zeroF lo x (u .0) from) to t, from, to)

@@ -5,10 +5,10 @@ use mathlib.Core.Path.{_≡_, refl, sym, ap, ap₂, _∙_, subst}
 use mathlib.Core.Logic.{inl, inr}
 use mathlib.Core.Bool.{Bool, true, false, not, _&&_, _||_, cond}
 use Prim.Native.Nat.{ℕ, zero, suc, _+_, _-_, _*_, _%_, _^_, _≤_, _<_, zero-le}
-use native.Mathlib.Nat.{le-of-eq, le-of-lt, le-add-right, le-add-left, le-antisymm, lt-of-lt-of-le, lt-of-not-le, not-le-of-lt, le-of-suc-le-suc, sub-add-cancel, eq-or-lt-of-le, ne-of-gt, eq-zero-or-pos, zero-mul, one-mul, mul-one, mul-comm, mul-assoc, mul-left-comm, mul-right-comm, mul-mul-mul-comm, add-mul, mul-sub, mul-pos, mul-lt-mul-of-pos-right, lt-of-mul-lt-mul-right, eq-of-mul-eq-mul-right}
+use native.Mathlib.Nat.{le-of-eq, le-of-lt, le-add-left, le-antisymm, lt-of-lt-of-le, lt-of-not-le, not-le-of-lt, le-of-suc-le-suc, sub-add-cancel, eq-or-lt-of-le, ne-of-gt, eq-zero-or-pos, zero-mul, one-mul, mul-one, mul-comm, mul-assoc, mul-left-comm, mul-right-comm, mul-mul-mul-comm, add-mul, mul-sub, mul-pos, mul-lt-mul-of-pos-right, lt-of-mul-lt-mul-right, eq-of-mul-eq-mul-right}
 use native.Mathlib.Omega.{arith}
 use lib.IntN.{ℤ, pos, negsuc}
-use lib.Dec.{T, leb, ltb, eqb, T-not, eqb→eq, ltb→lt, nltb→le, lt→ltb, leb→le, eqb-refl}
+use lib.Dec.{T, leb, ltb, eqb, eqb→eq, ltb→lt, nltb→le, lt→ltb, leb→le, eqb-refl}
 use lib.Pow.{pow-add, pow-pos, pow-lt}
 use lib.Ieee.{Float, nan, inf, fin, Format, prec, emax, low, up, down, unlike, below, level, odd, units, round, sum, add, sub, mul, div, lt, le, eq, isNan, fits}
 use lib.Ieee.Fits.{down-pos, round-is, and-l, and-r}
@@ -159,25 +159,6 @@ value-is (fin t m e) s {a} {c} C h v = record { bounded = tt; from-zero = from; 
 
 pub zero-is : Is zeroF 0 1
 zero-is = own zeroF tt (unfold le in tt)
-
--- with the sign set a value is not above zero
-pub negative-le : (m : ℕ) (e : ℤ) → T (le (fin true m e) zeroF)
-unfolding le at-most
-negative-le m e =
-    let a = m * up e * 1 in
-    let b = 0 * down e in
-    elim (eq-zero-or-pos a) [
-      | inl z ↦ le→test true a false b (λ u. z) absurd (rw z zero-le)
-      | inr h ↦ apart (a + b) (level true a false b) (lt-of-lt-of-le h (le-add-right a b))
-    ]
-
--- a value above zero is a fraction above zero
-pub above-zero : {x : Float} {a c : ℕ} → Is x a c → T (lt zeroF x) → 0 < a
-above-zero {x} {a} {c} p l =
-    elim (eq-zero-or-pos a) [ inl z ↦ absurd (T-not (le x zeroF) (Order.lt→not-le zeroF x l) (is-le p zero-is (none z))) | inr h ↦ h ]
-  where
-    none : a ≡ 0 → a * 1 ≤ 0 * c
-    none z = omega arith
 
 -- ---- what a format holds without rounding
 

@@ -6,7 +6,7 @@ use lib.Ieee.{le}
 use Rattle.quantities.specs.declared.time.Time.{Time}
 use Rattle.quantities.specs.declared.time_span.TimeSpan.{TimeSpan}
 use Rattle.quantities.specs.Doubles.{zeroF, least, largest, inRange}
-use Rattle.quantities.specs.Units.{timeOf, after}
+use Rattle.quantities.specs.Units.{timeOf, spanAfter}
 use Rattle.quantities.specs.declared.new_time.NewTime.{NewTime}
 use Rattle.quantities.specs.declared.new_time.NewTime.the-variants.{At, Refused}
 
@@ -24,7 +24,7 @@ checkedTime clock t = cond (timeFine clock t) (record { number = 0; time = t }) 
 
 -- a span after the clock
 unfoldable pub newTime : Time → TimeSpan → TimeAnswer
-newTime clock span = checkedTime clock (after clock span)
+newTime clock span = checkedTime clock (spanAfter clock span)
 
 -- the number and the value of each case of the answer
 abbrev pub toldTime : NewTime → TimeAnswer

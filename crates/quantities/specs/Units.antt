@@ -35,14 +35,11 @@ abbrev pub since : Time → Time → TimeSpan
 since t u = spanOf (sub binary64 (t .0 .0) (u .0 .0))
 
 -- a moment plus a span
-abbrev pub after : Time → TimeSpan → Time
-after t d = timeOf (add binary64 (t .0 .0) (d .0))
+abbrev pub spanAfter : Time → TimeSpan → Time
+spanAfter t d = timeOf (add binary64 (t .0 .0) (d .0))
 
 abbrev pub spanSum : TimeSpan → TimeSpan → TimeSpan
 spanSum d e = spanOf (add binary64 (d .0) (e .0))
-
-abbrev pub spanDifference : TimeSpan → TimeSpan → TimeSpan
-spanDifference d e = spanOf (sub binary64 (d .0) (e .0))
 
 -- a span over a count
 abbrev pub spanOver : TimeSpan → ℕ → TimeSpan
@@ -70,9 +67,6 @@ amountOverRate n r = spanOf (div binary64 (asDouble (n .0)) (r .0))
 -- an amount over a span
 abbrev pub amountOverSpan : Information → TimeSpan → InformationRate
 amountOverSpan n d = rateOf (div binary64 (asDouble (n .0)) (d .0))
-
-abbrev pub rateSum : InformationRate → InformationRate → InformationRate
-rateSum r q = rateOf (add binary64 (r .0) (q .0))
 
 -- a rate over a count
 abbrev pub rateOver : InformationRate → ℕ → InformationRate

@@ -8,14 +8,6 @@ use crate::time_span::TimeSpan;
 pub struct Information(pub u64);
 
 impl Information {
-    pub const ZERO: Information = Information(0);
-
-    pub fn bits(self) -> u64
-        ensures { λ r. ⌜ r ≡ self .0 ⌝ }
-    {
-        self.0
-    }
-
     // A helper for the crates above, and no entry point: the caller shows that the sum fits.
     pub fn add(self, rhs: Information) -> Information
         requires { ⌜ self .0 + rhs .0 < 2 ^ 64 ⌝ }

@@ -15,7 +15,7 @@ pub fn new_time(clock: Time, span: TimeSpan) -> NewTime
     ensures { λ r. ⌜ toldTime r ≡ newTime clock span ⌝ }
 {
     let t = clock.add(span);
-    if !in_range(-1.7976931348623157e308, 1.7976931348623157e308, t.0.0) {
+    if !in_range(TimeSpan::MIN.0, TimeSpan::MAX.0, t.0.0) {
         return NewTime::Refused;
     }
     if clock.0.0 <= t.0.0 {

@@ -1,6 +1,6 @@
 ghost use mathlib.Core.Path.{_≡_};
 ghost use Rattle.quantities.specs.Doubles.{zeroF};
-ghost use Rattle.quantities.specs.Units.{timeOf, after, since, earliestOf, latestOf, earliestOptOf};
+ghost use Rattle.quantities.specs.Units.{timeOf, spanAfter, since, earliestOf, latestOf, earliestOptOf};
 use crate::time_span::TimeSpan;
 
 // A moment: the span since the start of the simulation.
@@ -21,7 +21,7 @@ impl Time {
 
     // The moment that is t after the start: 0 + t.
     pub fn from_sim_start(t: TimeSpan) -> Time
-        ensures { λ r. ⌜ r ≡ after (timeOf zeroF) t ⌝ }
+        ensures { λ r. ⌜ r ≡ spanAfter (timeOf zeroF) t ⌝ }
     {
         Time(TimeSpan(0.0 + t.0))
     }
@@ -33,7 +33,7 @@ impl Time {
     }
 
     pub fn add(self, other: TimeSpan) -> Time
-        ensures { λ r. ⌜ r ≡ after self other ⌝ }
+        ensures { λ r. ⌜ r ≡ spanAfter self other ⌝ }
     {
         Time(TimeSpan(self.0.0 + other.0))
     }

@@ -1,5 +1,5 @@
 ghost use mathlib.Core.Path.{_≡_};
-ghost use Rattle.quantities.specs.Units.{spanOf, spanSum, spanDifference, spanOver};
+ghost use Rattle.quantities.specs.Units.{spanSum, spanOver};
 
 // A duration in seconds.
 pub struct TimeSpan(pub f64);
@@ -11,22 +11,10 @@ impl TimeSpan {
 
     pub const MIN: TimeSpan = TimeSpan(-1.7976931348623157e308);
 
-    pub fn seconds(self) -> f64
-        ensures { λ r. ⌜ r ≡ self .0 ⌝ }
-    {
-        self.0
-    }
-
     pub fn add(self, rhs: TimeSpan) -> TimeSpan
         ensures { λ r. ⌜ r ≡ spanSum self rhs ⌝ }
     {
         TimeSpan(self.0 + rhs.0)
-    }
-
-    pub fn sub(self, rhs: TimeSpan) -> TimeSpan
-        ensures { λ r. ⌜ r ≡ spanDifference self rhs ⌝ }
-    {
-        TimeSpan(self.0 - rhs.0)
     }
 
     // This span over a count. The count is exact as a double.
@@ -35,11 +23,4 @@ impl TimeSpan {
     {
         TimeSpan(self.0 / count as f64)
     }
-}
-
-// The span of that many seconds.
-pub fn seconds(value: f64) -> TimeSpan
-    ensures { λ r. ⌜ r ≡ spanOf value ⌝ }
-{
-    TimeSpan(value)
 }

@@ -9,9 +9,9 @@ use Rattle.rand.specs.declared.generator.Rng.{Rng}
 use Rattle.rand.specs.declared.distribution.ContinuousDistribution.{ContinuousDistribution}
 use Rattle.rand.specs.declared.distribution.Sampled.{Sampled}
 use Rattle.rand.specs.declared.distribution.PositiveSample.the-variants.{Positive, Spent}
-use Rattle.rand.specs.Draws.{drawOf, redraw, told}
+use Rattle.rand.specs.Draws.{drawOf, redraw, toldPositive}
 
-pub spent : (d : ContinuousDistribution) (g : Rng) (n : ℕ) → 8 ≤ n → told (Spent g) ≡ redraw (8 - n) d g
+pub spent : (d : ContinuousDistribution) (g : Rng) (n : ℕ) → 8 ≤ n → toldPositive (Spent g) ≡ redraw (8 - n) d g
 unfolding redraw
 spent d g n h = let none : 8 - n ≡ 0 = omega arith in rw none
 
@@ -19,7 +19,7 @@ module _ (d : ContinuousDistribution) (g : Rng) (n : ℕ) (h : n < 8) (s : Sampl
   one-left : 8 - n ≡ suc (8 - (n + 1))
   one-left = omega arith
 
-  pub positive : lt zeroF (s .value) ≡ true → told (Positive (s .value) (s .rng)) ≡ redraw (8 - n) d g
+  pub positive : lt zeroF (s .value) ≡ true → toldPositive (Positive (s .value) (s .rng)) ≡ redraw (8 - n) d g
   unfolding redraw
   positive t = rw (one-left, ← e, t)
 

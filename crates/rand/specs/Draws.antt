@@ -38,9 +38,9 @@ pub record PositiveDraw : Type 0 where
   pub rng : Rng
 
 -- The number and the values of each case of the answer: 0 for a positive sample, and 8 for eight draws in a row that are not positive.
-abbrev pub told : PositiveSample → PositiveDraw
-told (Positive x g) = record { number = 0; value = x; rng = g }
-told (Spent g) = record { number = 8; value = zeroF; rng = g }
+abbrev pub toldPositive : PositiveSample → PositiveDraw
+toldPositive (Positive x g) = record { number = 0; value = x; rng = g }
+toldPositive (Spent g) = record { number = 8; value = zeroF; rng = g }
 
 -- On and off times redraw until a sample is positive, at most so many times.
 unfoldable pub redraw : ℕ → ContinuousDistribution → Rng → PositiveDraw

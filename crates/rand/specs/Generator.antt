@@ -6,7 +6,7 @@ use lib.Bits.{bitXor, bitOr}
 use Rattle.rand.specs.declared.generator.Rng.{Rng}
 use Rattle.rand.specs.declared.generator.Output.{Output}
 use Rattle.rand.specs.declared.generator.Child.{Child}
-use Rattle.rand.specs.SplitMix64.{mixed, counted}
+use Rattle.rand.specs.SplitMix64.{mixed, incremented}
 
 -- the four words, in order
 abbrev pub wordsOf : Rng → List ℕ
@@ -37,10 +37,10 @@ fromWords a b c d = record { s0 = a; s1 = b; s2 = c; s3 = d }
 -- the generator of a seed
 unfoldable pub fromSeed : ℕ → Rng
 fromSeed seed =
-    let a = counted seed in
-    let b = counted a in
-    let c = counted b in
-    let d = counted c in
+    let a = incremented seed in
+    let b = incremented a in
+    let c = incremented b in
+    let d = incremented c in
     fromWords (mixed a) (mixed b) (mixed c) (mixed d)
 
 -- a child of a generator, and the parent after it

@@ -14,9 +14,9 @@ unfoldable pub mixed : ℕ → ℕ
 mixed x = folded 31 (folded 27 (folded 30 x * 0xbf58476d1ce4e5b9 % 2 ^ 64) * 0x94d049bb133111eb % 2 ^ 64)
 
 -- the counter's next value
-abbrev pub counted : ℕ → ℕ
-counted x = (x + 0x9e3779b97f4a7c15) % 2 ^ 64
+abbrev pub incremented : ℕ → ℕ
+incremented x = (x + 0x9e3779b97f4a7c15) % 2 ^ 64
 
 -- the output, and the state after it
 abbrev pub stepped : SplitMix64 → Mixed
-stepped g = record { output = mixed (counted (g .x)); state = record { x = counted (g .x) } }
+stepped g = record { output = mixed (incremented (g .x)); state = record { x = incremented (g .x) } }

@@ -1,5 +1,5 @@
 ghost use mathlib.Core.Path.{_≡_};
-ghost use Rattle.rand.specs.Draws.{sampleOf, unitOf, drawOf, told, positiveOf};
+ghost use Rattle.rand.specs.Draws.{sampleOf, unitOf, drawOf, toldPositive, positiveOf};
 use crate::generator::Rng;
 
 // What a draw is made from: always one value, or uniform from min to max.
@@ -61,7 +61,7 @@ impl ContinuousDistribution {
 
     // Draws until a sample is positive, at most eight times.
     pub fn sample_positive(self, rng: Rng) -> PositiveSample
-        ensures { λ r. ⌜ told r ≡ positiveOf self rng ⌝ }
+        ensures { λ r. ⌜ toldPositive r ≡ positiveOf self rng ⌝ }
     {
         let mut at = rng;
         let mut tries: u32 = 0;

@@ -2,8 +2,8 @@
 -- The crate `points` has the worked example whole. Assumes nothing.
 use mathlib.Core.Path.{_≡_, refl}
 use mathlib.Core.Bool.{false}
-use mathlib.Core.List.{List, [], _∷_}
-use Prim.Native.Nat.{ℕ, zero, suc}
+use mathlib.Core.List.{[], _∷_}
+use Prim.Native.Nat.{ℕ}
 use lib.IntN.{pos}
 use lib.ListN.{replicate}
 use lib.Ieee.{Float, nan, fin}
@@ -26,7 +26,7 @@ use Rattle.remy.specs.declared.simulation.TickRecord.{TickRecord}
 use Rattle.remy.specs.State.{withLine, withQueued, meterAt}
 use Rattle.remy.specs.Build.{buildOf}
 use Rattle.remy.specs.Tick.{tickOf}
-use Rattle.remy.specs.History.{Call, tick, after, history}
+use Rattle.remy.specs.History.{ticks, after, history}
 use Rattle.remy.proofs.Opened.{ticking}
 
 abbrev three : Float
@@ -59,10 +59,6 @@ builtWith delay limit on off policy =
 -- on 100, off 1, held
 abbrev pub built : Float → Limit → ℕ → Simulation
 built delay limit window = builtWith delay limit hundred (power 0) (Held window)
-
-abbrev pub ticks : ℕ → List Call
-ticks zero = []
-ticks (suc n) = tick ∷ ticks n
 
 abbrev line : Float → ℕ → Mark → Name → Name → TickRecord
 line time part mark packet started = record { time = timeOf time; part = part; mark = mark; packet = packet; started = started }

@@ -12,8 +12,7 @@ use lib.Dec.{T}
 use lib.Ieee.{le}
 use Rattle.quantities.specs.declared.time.Time.{Time}
 use Rattle.quantities.specs.declared.time_span.TimeSpan.{TimeSpan}
-use Rattle.quantities.specs.Units.{amountOf}
-use Rattle.quantities.specs.Units.{after as spanAfter}
+use Rattle.quantities.specs.Units.{amountOf, spanAfter}
 use Rattle.link.specs.declared.packet.Packet.{Packet}
 use Rattle.link.specs.declared.packet.Transit.{Transit}
 use Rattle.link.specs.declared.ring.Ring.{Ring}

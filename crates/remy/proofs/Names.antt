@@ -30,8 +30,7 @@ use Rattle.toggler.specs.declared.toggler.Toggled.{Toggled}
 use Rattle.link.specs.Ring.{places}
 use Rattle.quantities.specs.NewTime.{newTime}
 use Rattle.link.specs.Link.{isDue, departed, receiveOf, tryDeliver, isFree, notStarted, startWith, tryTransmit}
-use Rattle.sender.specs.Sender.{timerDue, tickTimer, tickSend, timerSent, returnedOf}
-use Rattle.sender.specs.Sender.{sendWith as sentWith}
+use Rattle.sender.specs.Sender.{timerDue, tickTimer, tickSend, timerSent, returnedOf, sentWith}
 use Rattle.toggler.specs.Toggler.{toggleOf}
 use Rattle.link.proofs.Limits.{due-count, free-count}
 use Rattle.remy.specs.declared.network.RemyNetwork.{RemyNetwork}

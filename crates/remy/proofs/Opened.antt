@@ -4,7 +4,7 @@ use lib.Ieee.{ofBits, round, units, odd, size, span, climb, add, mul, sub, neg, 
 use Rattle.rand.specs.SplitMix64.{mixed}
 use Rattle.rand.specs.Generator.{fromWords, outputOf, movedOn, fromSeed, childOf}
 use Rattle.rand.specs.Draws.{sampleOf, unitOf, uniformOf, drawOf, redraw}
-use Rattle.meters.specs.Sums.{summedOf, averageRtt}
+use Rattle.flows.specs.Sums.{summedOf, averageRtt}
 use Rattle.meters.specs.Meter.{startFit, meterFit, ready, switchedOf, recordedOf, enabledTime, readOf}
 use Rattle.quantities.specs.NewTime.{newTime}
 use Rattle.link.specs.Link as Link

@@ -10,8 +10,7 @@ use lib.Ieee.{lt}
 use Rattle.quantities.specs.declared.time.Time.{Time}
 use Rattle.quantities.specs.declared.time.OptionTime.the-variants.{None}
 use Rattle.quantities.specs.Doubles.{power}
-use Rattle.quantities.specs.Units.{spanOf, rateOf, amountOverRate, since}
-use Rattle.quantities.specs.Units.{after as spanAfter}
+use Rattle.quantities.specs.Units.{spanOf, rateOf, amountOverRate, since, spanAfter}
 use Rattle.rand.specs.Draws.{unitOf}
 use Rattle.meters.specs.declared.meter.Metered.{Metered}
 use Rattle.meters.specs.Meter.{recordedOf}

@@ -14,8 +14,7 @@ use Rattle.quantities.specs.declared.time.OptionTime.{OptionTime}
 use Rattle.quantities.specs.declared.time.OptionTime.the-variants.{None, Some}
 use Rattle.quantities.specs.declared.time_span.TimeSpan.{TimeSpan}
 use Rattle.quantities.specs.Doubles.{zeroF, least, negative}
-use Rattle.quantities.specs.Units.{timeOf, latestOf, earliestOptOf}
-use Rattle.quantities.specs.Units.{after as spanAfter}
+use Rattle.quantities.specs.Units.{timeOf, latestOf, earliestOptOf, spanAfter}
 use Rattle.quantities.proofs.Order.{eq→same}
 
 -- a double of the format, without a minus sign

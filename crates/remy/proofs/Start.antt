@@ -11,8 +11,7 @@ use lib.ListN.{length, getD, set, replicate, length-set}
 use lib.Ieee.{lt, fits}
 use Rattle.quantities.specs.declared.time.OptionTime.the-variants.{None}
 use Rattle.quantities.specs.Doubles.{zeroF}
-use Rattle.quantities.specs.Units.{spanOf, timeOf}
-use Rattle.quantities.specs.Units.{after as spanAfter}
+use Rattle.quantities.specs.Units.{spanOf, timeOf, spanAfter}
 use Rattle.quantities.proofs.Order.{lt→le}
 use Rattle.rand.specs.declared.generator.Rng.{Rng}
 use Rattle.rand.specs.declared.distribution.ContinuousDistribution.{ContinuousDistribution}

@@ -13,13 +13,14 @@ use Rattle.link.specs.declared.link.Limit.the-variants as Limit
 use Rattle.sender.specs.declared.lossy.SenderState.the-variants as State
 use Rattle.remy.specs.declared.simulation.Next.the-variants as Next
 use Rattle.remy.specs.declared.simulation.Simulation.{Simulation}
+use Rattle.remy.specs.declared.simulation.Ticked.{Ticked}
 use Rattle.remy.specs.State.{senderAt, togglerAt, withHead, withLine, withWaiting, withOnLine, withSender, withToggler, withQueued}
 use Rattle.remy.specs.Build.{emptySimulation}
 use Rattle.remy.specs.Tick.{unmoved, tickOf}
 use Rattle.remy.specs.Run.{runOf}
-use Rattle.remy.specs.History.{after}
+use Rattle.remy.specs.History.{ticks, after}
 use Rattle.remy.proofs.Opened.{ticking}
-use Rattle.remy.proofs.Examples.{built, ticks, worked, withBits}
+use Rattle.remy.proofs.Examples.{built, worked, withBits}
 
 -- ---- 10: a clock of 2^40 is not above 2^40, and the double after it is
 
@@ -97,18 +98,22 @@ crowded waiting onLine =
       rng = on .line .rng;
     })
 
+-- a tick's number, and a number of its state
+abbrev seen : (Simulation → ℕ) → Ticked → ℕ × ℕ
+seen f t = (t .number, f (t .simulation))
+
 -- the sender is next and the link queued: 12, and the sender is as it was
 sends : Simulation
 sends = withQueued (crowded 512 0) 0 (Some (timeOf (power 0)))
 
-arrival-refused : (tickOf sends .number ≡ 12) × (senderAt (tickOf sends .simulation) 0 .«packets_sent» ≡ 1000)
+arrival-refused : seen (λ s. senderAt s 0 .«packets_sent») (tickOf sends) ≡ (12, 1000)
 unfolding ticking sends
-arrival-refused = (refl, refl)
+arrival-refused = refl
 
 -- the link is next and the sender queued: 13, and the line is as it was
 starts : Simulation
 starts = withQueued (withHead (crowded 1 512) (record { clock = timeOf (power 0); next = Next.Part 0 })) 1 (Some (timeOf (power 0)))
 
-start-refused : (tickOf starts .number ≡ 13) × (tickOf starts .simulation .line .waiting .count ≡ 1)
+start-refused : seen (λ s. s .line .waiting .count) (tickOf starts) ≡ (13, 1)
 unfolding ticking starts
-start-refused = (refl, refl)
+start-refused = refl

@@ -22,8 +22,7 @@ use Rattle.toggler.specs.declared.toggler.Toggled.{Toggled}
 use Rattle.link.specs.Ring.{places}
 use Rattle.quantities.specs.NewTime.{newTime}
 use Rattle.link.specs.Link.{admits, admitted, receiveOf}
-use Rattle.sender.specs.Sender.{windowSent, timerSent, timerDue, tickTimer, notSent, tickSend, enabledOf, disabledOf}
-use Rattle.sender.specs.Sender.{sendWith as sentWith}
+use Rattle.sender.specs.Sender.{windowSent, timerSent, timerDue, tickTimer, notSent, tickSend, enabledOf, disabledOf, sentWith}
 use Rattle.toggler.specs.Toggler.{toggleOf}
 use Rattle.remy.specs.declared.simulation.Simulation.{Simulation}
 use Rattle.remy.specs.declared.simulation.Mark.the-variants as Mark

@@ -8,8 +8,7 @@ use lib.ListN.{length, take}
 use lib.Dec.{T, ltb, eqb}
 use lib.Ieee.{le}
 use Rattle.quantities.specs.declared.time_span.TimeSpan.{TimeSpan}
-use Rattle.quantities.specs.Units.{spanOf, rateOf, amountOverRate}
-use Rattle.quantities.specs.Units.{after as spanAfter}
+use Rattle.quantities.specs.Units.{spanOf, rateOf, amountOverRate, spanAfter}
 use Rattle.link.specs.declared.packet.Packet.{Packet}
 use Rattle.link.specs.declared.packet.Transit.{Transit}
 use Rattle.link.specs.declared.link.Limit.{Limit}

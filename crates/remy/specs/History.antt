@@ -1,5 +1,5 @@
 -- Document 01, "Tick and history": the calls, the history, and the lists that the account reads in it. Definitions only.
-use Prim.Native.Nat.{ℕ}
+use Prim.Native.Nat.{ℕ, zero, suc}
 use mathlib.Core.Path.{_≡_}
 use mathlib.Core.Bool.{Bool, true, false, _||_, cond}
 use mathlib.Core.List.{List, [], _∷_, map}
@@ -25,6 +25,11 @@ pub data Call : Type 0 where
 
 abbrev pub called : Call → Simulation → Ticked
 called tick s = tickOf s
+
+-- so many ticks
+abbrev pub ticks : ℕ → List Call
+ticks zero = []
+ticks (suc n) = tick ∷ ticks n
 
 -- the state after the calls, each given the state that the one before it returned, refused and idle ones included
 abbrev pub after : List Call → Simulation → Simulation

@@ -1,4 +1,1 @@
-mod Putting
-mod Running
-pub mod Printed
-pub mod Few
+pub mod Texts

@@ -1,3 +1,2 @@
 pub mod Network
-pub mod Lines
 pub mod Report

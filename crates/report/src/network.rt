@@ -41,7 +41,7 @@ fn policy_of(policy: description::Policy) -> Policy
 
 // A double is the one that its bits stand for. Every pattern of a NaN gives the one NaN, which is in
 // no range, so a build refuses it.
-pub fn network_of(description: Description) -> RemyNetwork
+pub(crate) fn network_of(description: Description) -> RemyNetwork
     ensures { λ r. ⌜ r ≡ networkOf description ⌝ }
 {
     let limit = description.limit;

@@ -96,8 +96,8 @@ dueAt (Some t) clock = eq (t .0 .0) (clock .0 .0)
 unfoldable pub timerDue : Enabled → Time → Bool
 timerDue e clock = dueAt (e .timer) clock
 
-abbrev pub timerWith : Enabled → TimerSet → TimerTicked
-timerWith e set =
+abbrev pub timerTickedWith : Enabled → TimerSet → TimerTicked
+timerTickedWith e set =
     cond (eqb (set .number) 0)
     (record { number = 0; enabled = record { started = e .started; «greatest_ack» = e .«greatest_ack»; cwnd = max 1 (e .cwnd / 2); timer = set .timer } })
     (record { number = set .number; enabled = e })
@@ -108,15 +108,15 @@ tickTimer (Held w) e clock =
     record { number = 0; enabled = record { started = e .started; «greatest_ack» = e .«greatest_ack»; cwnd = e .cwnd; timer = None } }
 tickTimer (Grown first most) e clock =
     record { number = 0; enabled = record { started = e .started; «greatest_ack» = e .«greatest_ack»; cwnd = e .cwnd; timer = None } }
-tickTimer (Timed most gap) e clock = timerWith e (timerIn clock gap)
+tickTimer (Timed most gap) e clock = timerTickedWith e (timerIn clock gap)
 
 -- a refused send has no packet: sequence 0
 abbrev pub notSent : ℕ → Enabled → Time → ℕ → ℕ → Sent
 notSent sent e clock i n = record { number = n; packet = record { sender = i; seq = 0; «sent_time» = clock }; «packets_sent» = sent; enabled = e }
 
 -- the sender after a send, and its packet
-abbrev pub sendWith : ℕ → Policy → Enabled → Time → ℕ → TimerSet → Sent
-sendWith sent policy e clock i set =
+abbrev pub sentWith : ℕ → Policy → Enabled → Time → ℕ → TimerSet → Sent
+sentWith sent policy e clock i set =
     cond (eqb (set .number) 0)
     (record {
       number = 0;
@@ -129,7 +129,7 @@ sendWith sent policy e clock i set =
 -- One packet, sequence sent + 1. 11: a sender due to send has sent 2^24.
 unfoldable pub tickSend : ℕ → Policy → Enabled → Time → ℕ → Sent
 tickSend sent policy e clock i =
-    cond (leb 16777216 sent) (notSent sent e clock i 11) (sendWith sent policy e clock i (timerSent policy (e .timer) clock))
+    cond (leb 16777216 sent) (notSent sent e clock i 11) (sentWith sent policy e clock i (timerSent policy (e .timer) clock))
 
 -- ---- a packet that comes back
 

@@ -71,7 +71,7 @@ pub struct TimerSet {
 
 impl Policy {
     // The window of a sender that is switched on.
-    pub fn initial_cwnd(self) -> u32
+    pub(crate) fn initial_cwnd(self) -> u32
         ensures { λ r. ⌜ r ≡ firstWindow self ⌝ }
     {
         match self {
@@ -82,7 +82,7 @@ impl Policy {
     }
 
     // The window after a send.
-    pub fn packet_sent(self, cwnd: u32) -> u32
+    pub(crate) fn packet_sent(self, cwnd: u32) -> u32
         ensures { λ r. ⌜ r ≡ windowSent self cwnd ⌝ }
     {
         match self {
@@ -93,7 +93,7 @@ impl Policy {
     }
 
     // The window after a packet is counted.
-    pub fn ack_received(self, cwnd: u32) -> u32
+    pub(crate) fn ack_received(self, cwnd: u32) -> u32
         ensures { λ r. ⌜ r ≡ windowCounted self cwnd ⌝ }
     {
         match self {
@@ -104,7 +104,7 @@ impl Policy {
     }
 
     // The timer after a send: set by the first send since the sender was switched on.
-    pub fn timer_sent(self, timer: OptionTime, clock: Time) -> TimerSet
+    pub(crate) fn timer_sent(self, timer: OptionTime, clock: Time) -> TimerSet
         ensures { λ r. ⌜ r ≡ timerSent self timer clock ⌝ }
     {
         match self {
@@ -152,7 +152,7 @@ fn halved(cwnd: u32) -> u32
 
 impl Enabled {
     // Whether another packet may be sent.
-    pub fn may_send(self, packets_sent: u32) -> bool
+    pub(crate) fn may_send(self, packets_sent: u32) -> bool
         ensures { λ r. ⌜ r ≡ maySend «packets_sent» self ⌝ }
     {
         (packets_sent as u64) < (self.greatest_ack as u64) + (self.cwnd as u64)

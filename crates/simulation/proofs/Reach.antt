@@ -10,11 +10,11 @@ use Rattle.remy.specs.declared.simulation.Ticked.{Ticked}
 use Rattle.remy.specs.declared.simulation.Ran.{Ran}
 use Rattle.remy.specs.Tick.{Outcome, moves, stops, ticked, tickOf}
 use Rattle.remy.specs.Run.{oneMore, runOf}
-use Rattle.remy.specs.History.{Call, tick, called, after, history, noted}
+use Rattle.remy.specs.History.{Call, tick, ticks, called, after, history, noted}
 use Rattle.remy.specs.Account.{Account}
 use Rattle.remy.proofs.Account.{demand3}
 use Rattle.advance.proofs.Ticks.{tick-elim}
-use Rattle.simulation.specs.Reached.{ticks, TickAccount, RunAccount}
+use Rattle.simulation.specs.Reached.{TickAccount, RunAccount}
 
 -- ---- calls and histories append
 

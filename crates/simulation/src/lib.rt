@@ -1,21 +1,12 @@
-// The simulation in code: tick and run, equal to their definitions in remy; time, which is the clock;
-// and the flow read, equal to its definition in specs/Reached.antt. `tick` and `run` also say demand 3,
-// the account of packets, for every state that calls reach from a build.
+// The simulation in code: tick and run, equal to their definitions in remy. Both also say demand 3, the
+// account of packets, for every state that calls reach from a build.
 ghost use mathlib.Core.Path.{_≡_};
 ghost use Rattle.remy.specs.Tick.{tickOf};
 ghost use Rattle.remy.specs.Run.{runOf};
-ghost use Rattle.simulation.specs.Reached.{TickAccount, Never14, RunAccount, toldFlow, flowOf};
-use meters::FlowRead;
-use quantities::Time;
+ghost use Rattle.simulation.specs.Reached.{TickAccount, Never14, RunAccount};
 use remy::Ran;
 use remy::Simulation;
 use remy::Ticked;
-
-// The flow of a sender, if it is there.
-pub enum SenderFlow {
-    NoSender,
-    Of(FlowRead),
-}
 
 // One tick: 9, idle, 10, or the turn of the next part. 14 is never met.
 pub fn tick(simulation: Simulation) -> Ticked
@@ -43,27 +34,4 @@ pub fn run(simulation: Simulation, n: u32) -> Ran
         number: a.number,
         simulation: last,
     }
-}
-
-// The clock.
-pub fn time(simulation: Simulation) -> Time
-    ensures { λ r. ⌜ r ≡ simulation .head .clock ⌝ }
-{
-    simulation.head.clock
-}
-
-// The flow of sender i, read at the clock.
-pub fn average_properties(simulation: Simulation, i: u32) -> SenderFlow
-    ensures { λ r. ⌜ toldFlow r ≡ flowOf simulation i ⌝ }
-{
-    if i < simulation.network.senders {
-        if i < 16 {
-            let k = i as usize;
-            let meter = simulation.meters[k];
-            let clock = simulation.head.clock;
-            let read = meter.average_properties(clock);
-            return SenderFlow::Of(read);
-        }
-    }
-    SenderFlow::NoSender
 }

@@ -9,7 +9,7 @@ use Rattle.quantities.specs.declared.time.Time.{Time}
 use Rattle.quantities.specs.declared.time.OptionTime.{OptionTime}
 use Rattle.quantities.specs.declared.time.OptionTime.the-variants.{None, Some}
 use Rattle.quantities.specs.Doubles.{zeroF, power}
-use Rattle.quantities.specs.Units.{spanOf, after}
+use Rattle.quantities.specs.Units.{spanOf, spanAfter}
 use Rattle.meters.specs.declared.meter.AverageFlowMeter.{AverageFlowMeter}
 use Rattle.meters.specs.Meter.{isOn, totalFit, sumFit}
 use Rattle.link.specs.declared.packet.Packet.{Packet}
@@ -65,7 +65,7 @@ pub record TransitOk (n : ℕ) (sent : ℕ → ℕ) (clock : Time) (delay : Floa
   pub packet : PacketOk n sent clock (x .packet)
   pub held : Held (x .due)
   pub ahead : NotAfter clock (x .due)
-  pub soon : NotAfter (x .due) (after clock (spanOf delay))
+  pub soon : NotAfter (x .due) (spanAfter clock (spanOf delay))
 
 pub record LineOk (net : RemyNetwork) (sent : ℕ → ℕ) (clock : Time) (l : Line) (waiting : List Packet) (moving : List Transit) : Type 0 where
   pub waits : Sound waiting (l .waiting)

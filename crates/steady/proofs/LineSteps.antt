@@ -11,7 +11,7 @@ use lib.ListN.{set}
 use lib.Ieee.{le}
 use lib.Ieee.Bits.{is-true}
 use Rattle.quantities.specs.Doubles.{power}
-use Rattle.quantities.specs.Units.{spanOf, rateOf, amountOf, amountOverRate, after}
+use Rattle.quantities.specs.Units.{spanOf, rateOf, amountOf, amountOverRate, spanAfter}
 use Rattle.quantities.proofs.Order.{le-known-r, le-refl}
 use Rattle.quantities.proofs.Ranges.{within, test→within, sending}
 use Rattle.link.specs.declared.packet.Packet.{Packet}
@@ -67,13 +67,13 @@ module _ {n : RemyNetwork} (f : FitNetwork n) where
 
 -- the first packet that waits, on the line from the clock on, and the state then
 abbrev pub begun : Simulation → Transit
-begun s = record { packet = firstOf s; due = after (s .head .clock) (spanOf (s .network .delay)) }
+begun s = record { packet = firstOf s; due = spanAfter (s .head .clock) (spanOf (s .network .delay)) }
 
 abbrev pub started : Simulation → Simulation
 started s =
     let size = packetBits (s .network) (firstOf s) in
     withLine (withOnLine s (set (s .«on_line») (placeAfter (s .line .«on_line»)) (begun s)))
-    (startedLine (s .line) size (after (s .head .clock) (amountOverRate size (rateOf (s .network .rate)))))
+    (startedLine (s .line) size (spanAfter (s .head .clock) (amountOverRate size (rateOf (s .network .rate)))))
 
 module _ (s : Simulation) (b : Body s) where
   -- the line alone changes

@@ -16,7 +16,7 @@ use Rattle.quantities.specs.Units.{amountOf}
 use Rattle.quantities.proofs.Ranges.{within, within-wider, test→within, limit, sum-within}
 use Rattle.meters.specs.declared.meter.AverageFlowMeter.{AverageFlowMeter}
 use Rattle.meters.specs.declared.meter.Metered.{Metered}
-use Rattle.meters.specs.Sums.{summedOf}
+use Rattle.flows.specs.Sums.{summedOf}
 use Rattle.meters.specs.Meter.{isOn, ready, taken, unchanged, turned, countedOf, switchedOf, recordedOf}
 use Rattle.remy.proofs.Facts.{both-l, both-r, range-i}
 use Rattle.remy.proofs.Steps.{cond-elim}

@@ -13,8 +13,7 @@ use Rattle.quantities.specs.declared.time.OptionTime.{OptionTime}
 use Rattle.quantities.specs.declared.time.OptionTime.the-variants.{None, Some}
 use Rattle.quantities.specs.declared.time_span.TimeSpan.{TimeSpan}
 use Rattle.quantities.specs.Doubles.{zeroF, power, least, largest, inRange}
-use Rattle.quantities.specs.Units.{spanOf, rateOf, amountOverRate}
-use Rattle.quantities.specs.Units.{after as spanAfter}
+use Rattle.quantities.specs.Units.{spanOf, rateOf, amountOverRate, spanAfter}
 use Rattle.quantities.proofs.Order.{le-trans}
 use Rattle.quantities.proofs.Ranges.{within, due-fine}
 use Rattle.rand.specs.declared.generator.Rng.{Rng}

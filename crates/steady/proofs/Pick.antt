@@ -14,8 +14,7 @@ use Rattle.quantities.specs.declared.time.Time.{Time}
 use Rattle.quantities.specs.declared.time.OptionTime.{OptionTime}
 use Rattle.quantities.specs.declared.time.OptionTime.the-variants.{None, Some}
 use Rattle.quantities.specs.Doubles.{zeroF, power}
-use Rattle.quantities.specs.Units.{spanOf, latestOf, earliestOptOf}
-use Rattle.quantities.specs.Units.{after as spanAfter}
+use Rattle.quantities.specs.Units.{spanOf, latestOf, earliestOptOf, spanAfter}
 use Rattle.quantities.proofs.Order.{le-known-l, le-known-r, le-trans, le-antisym, later-left, later-right, later-least}
 use Rattle.quantities.proofs.Ranges.{test→within, within-finite, due-order}
 use Rattle.meters.specs.declared.meter.AverageFlowMeter.{AverageFlowMeter}

@@ -12,7 +12,7 @@ use Rattle.sender.specs.declared.lossy.Policy.the-variants as Policy
 use Rattle.sender.specs.declared.lossy.Enabled.{Enabled}
 use Rattle.sender.specs.declared.lossy.Sent.{Sent}
 use Rattle.sender.specs.declared.lossy.TimerTicked.{TimerTicked}
-use Rattle.sender.specs.Sender.{firstWindow, windowSent, windowCounted, timerIn, timerSent, tickTimer, notSent, sendWith, tickSend, acked}
+use Rattle.sender.specs.Sender.{firstWindow, windowSent, windowCounted, timerIn, timerSent, tickTimer, notSent, sentWith, tickSend, acked}
 use Rattle.remy.specs.Network.{windowFit, gapFit, policyFit}
 use Rattle.remy.proofs.Facts.{both-l, both-r, both-i, between-low, between-high}
 use Rattle.remy.proofs.Steps.{cond-elim}
@@ -78,7 +78,7 @@ module _ (clock : Time) (c : Early clock) (e : Enabled) where
   unfolding tickSend
   sent-ok sent policy i f k =
       let set = timerSent policy (e .timer) clock in
-      cond-elim (λ (t : Sent). t .number ≡ 0 → SentOk clock sent policy i t) (leb 16777216 sent) (notSent sent e clock i 11) (sendWith sent policy e clock i set)
+      cond-elim (λ (t : Sent). t .number ≡ 0 → SentOk clock sent policy i t) (leb 16777216 sent) (notSent sent e clock i 11) (sentWith sent policy e clock i set)
       (λ spent z. let no : ⊥ = omega (arith, z) in absurd no)
       (λ room. cond-elim (λ (t : Sent). t .number ≡ 0 → SentOk clock sent policy i t) (eqb (set .number) 0)
       (record {

@@ -16,8 +16,7 @@ use Rattle.quantities.specs.declared.time.OptionTime.{OptionTime}
 use Rattle.quantities.specs.declared.time.OptionTime.the-variants.{None, Some}
 use Rattle.quantities.specs.declared.time_span.TimeSpan.{TimeSpan}
 use Rattle.quantities.specs.Doubles.{zeroF, power, least, largest, inRange}
-use Rattle.quantities.specs.Units.{spanOf, since, spanSum}
-use Rattle.quantities.specs.Units.{after as spanAfter}
+use Rattle.quantities.specs.Units.{spanOf, since, spanSum, spanAfter}
 use Rattle.quantities.proofs.Order.{le-trans, le-refl, le-known-r}
 use Rattle.quantities.proofs.Values.{Is, Rounds, own, le-is, rounds-below, rounds-from-zero, sub-rounds}
 use Rattle.quantities.proofs.Ranges.{within, within-wider, within-finite, test→within, add-within}

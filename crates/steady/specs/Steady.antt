@@ -4,7 +4,7 @@ use mathlib.Core.Path.{_≡_}
 use mathlib.Core.Bool.{Bool, _&&_}
 use lib.Ieee.{le}
 use lib.ListN.{length}
-use Rattle.quantities.specs.Units.{spanOf, after}
+use Rattle.quantities.specs.Units.{spanOf, spanAfter}
 use Rattle.link.specs.declared.packet.Transit.{Transit}
 use Rattle.link.specs.Ring.{places}
 use Rattle.toggler.specs.Queue.{queuePlaces}
@@ -13,7 +13,7 @@ use Rattle.remy.specs.State.{onLineItems}
 use Rattle.remy.specs.Fit.{every, fit}
 
 abbrev pub dueSoon : Simulation → Transit → Bool
-dueSoon s x = le (x .due .0 .0) (after (s .head .clock) (spanOf (s .network .delay)) .0 .0)
+dueSoon s x = le (x .due .0 .0) (spanAfter (s .head .clock) (spanOf (s .network .delay)) .0 .0)
 
 unfoldable pub steady : Simulation → Bool
 steady s = fit s && every (dueSoon s) (onLineItems s)

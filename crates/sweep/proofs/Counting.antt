@@ -14,12 +14,13 @@ use Rattle.description.specs.declared.ReadDescription.{ReadDescription}
 use Rattle.description.specs.declared.ReadDescription.the-variants.{Given, Malformed}
 use Rattle.printer.specs.declared.Put.{Put}
 use Rattle.printer.specs.declared.Put.the-variants as Put
-use Rattle.printer.specs.Printing.{refusedOf, recordOf, stopOf, written}
+use Rattle.printer.specs.Printing.{refusedText, recordText, stopText, written}
 use Rattle.report.specs.declared.run.Stage.the-variants as Stage
-use Rattle.report.specs.Lines.{recordLine, recordLines, stopLine, endLines, runLines}
+use Rattle.lines.specs.Lines.{recordLine, recordLines, stopLine, endLines, runLines}
 use Rattle.report.specs.Network.{networkOf}
-use Rattle.report.specs.Report.{Puts, puts, none, leftAt, leftOf, reportOf, ForText, AllPut}
-use Rattle.sweep.specs.Sweep.{countOf, CountPut}
+use Rattle.report.specs.Report.{leftAt, leftOf, reportOf, ForText}
+use Rattle.filling.specs.Filling.{Puts, puts, noneLeft, AllPut}
+use Rattle.sweep.specs.Sweep.{putCount, CountPut}
 
 -- ---- the answer
 
@@ -32,7 +33,7 @@ number-cond true at = refl
 number-cond false at = refl
 
 counted : (p : Puts) (r : Put) (after : List ℕ) → AllPut p r after → CountPut p (numberOf r) after
-counted p r after w = record { answer = ap numberOf (w .answer) ∙ number-cond (none (p .rest)) (p .at); bytes = w .bytes }
+counted p r after w = record { answer = ap numberOf (w .answer) ∙ number-cond (noneLeft (p .rest)) (p .at); bytes = w .bytes }
 
 -- what print_run says of its answer, said of the answer's number
 pub counted-text : (text : List ℕ) (f : ReadDescription → Puts) (r x : Put) (after : List ℕ) → r ≡ x → ForText text (λ d. AllPut (f d) r after)
@@ -59,26 +60,26 @@ abbrev Begins : List (List ℕ) → Type 0
 Begins [] = ⊥
 Begins (l ∷ ls) = 0 < length l
 
-put-above-0 : (ls : List (List ℕ)) (d : List ℕ) → Begins ls → none (puts ls d 0 .rest) ≡ true → 0 < puts ls d 0 .at
+put-above-0 : (ls : List (List ℕ)) (d : List ℕ) → Begins ls → noneLeft (puts ls d 0 .rest) ≡ true → 0 < puts ls d 0 .at
 unfolding puts
 put-above-0 [] d h e = absurd h
 put-above-0 (l ∷ ls) d h e = above (leb (0 + 128) (length d)) e
   where
-    above : (b : Bool) → none (cond b (puts ls (written d 0 l) (0 + length l)) (record { at = 0; out = d; rest = l ∷ ls }) .rest) ≡ true
+    above : (b : Bool) → noneLeft (cond b (puts ls (written d 0 l) (0 + length l)) (record { at = 0; out = d; rest = l ∷ ls }) .rest) ≡ true
         → 0 < cond b (puts ls (written d 0 l) (0 + length l)) (record { at = 0; out = d; rest = l ∷ ls }) .at
     above true f = omega (arith, h, puts-up ls (written d 0 l) (0 + length l))
     above false f = absurd (true≢false (sym f))
 
-refused-begins : (n : ℕ) → 0 < length (refusedOf n)
-unfolding refusedOf
+refused-begins : (n : ℕ) → 0 < length (refusedText n)
+unfolding refusedText
 refused-begins n = omega arith
 
 end-begins : (n : ℕ) (s : Simulation) → Begins (endLines n s)
-unfolding endLines stopLine stopOf
+unfolding endLines stopLine stopText
 end-begins n s = omega arith
 
 run-begins : (n : ℕ) (s : Simulation) → Begins (runLines n s)
-unfolding runLines recordLines recordLine recordOf
+unfolding runLines recordLines recordLine recordText
 run-begins zero s = end-begins (runOf 0 s .number) (runOf 0 s .simulation)
 run-begins (suc n) s = begins (tickOf s .moved)
   where
@@ -96,5 +97,5 @@ report-begins (Given d) = begins (eqb (buildOf (networkOf d) (d .seed) .number) 
     begins false = refused-begins (buildOf (networkOf d) (d .seed) .number)
 
 -- whatever a text is read as: where all of it is put, its count is above 0
-pub count-above-0 : (r : ReadDescription) (out : List ℕ) → none (puts (leftOf (reportOf r)) out 0 .rest) ≡ true → 0 < countOf (puts (leftOf (reportOf r)) out 0)
+pub count-above-0 : (r : ReadDescription) (out : List ℕ) → noneLeft (puts (leftOf (reportOf r)) out 0 .rest) ≡ true → 0 < putCount (puts (leftOf (reportOf r)) out 0)
 count-above-0 r out e = rw e (put-above-0 (leftOf (reportOf r)) out (report-begins r) e)

@@ -55,7 +55,7 @@ fn digit(b: u8) -> usize
 
 fn answer(text: &[u8]) {
     let mut out = io::large_buffer();
-    match report::print_run(text, &mut out) {
+    match filling::print_run(text, &mut out) {
         Put::At(at) => {
             let n = io::count(counted(at), &out);
             io::write_all(1, &out[..n]);

@@ -1,15 +1,15 @@
--- What the pick picks: a time that is queued at the picked part, that no queued time comes before, and that no lower part has.
+-- What the pick picks: a time that is queued at the picked part, and that no queued time comes before.
 -- A NaN compares with nothing, so a law that puts one time before another says which of the two are no NaN. Assumes nothing.
-use mathlib.Core.Path.{_≡_, refl, ap, _∙_, subst}
+use mathlib.Core.Path.{_≡_, refl, ap, _∙_}
 use mathlib.Core.Logic.{_⊎_, inl, inr, ⊎-elim}
 use mathlib.Core.Bool.{Bool, true, false, not, cond}
 use mathlib.Core.List.{List, [], _∷_}
-use Prim.Native.Nat.{ℕ, zero, suc, _+_, _≤_, _<_}
+use Prim.Native.Nat.{ℕ, zero, suc, _+_, _<_}
 use native.Mathlib.Omega.{arith}
 use lib.Dec.{T, T-not, not-T}
 use lib.Ieee.{lt, le, isNan}
 use lib.ListN.{length, getD}
-use Rattle.quantities.proofs.Order.{lt-known-r, not-lt→le, lt-le-trans, lt-trans, lt-irrefl}
+use Rattle.quantities.proofs.Order.{not-lt→le, lt-trans, lt-irrefl}
 use Rattle.quantities.specs.declared.time.Time.{Time}
 use Rattle.quantities.specs.declared.time.OptionTime.{OptionTime}
 use Rattle.quantities.specs.declared.time.OptionTime.the-variants.{None, Some}
@@ -31,14 +31,6 @@ unfolding sooner
 sooner-irrefl None = tt
 sooner-irrefl (Some t) = not-T (lt (t .0 .0) (t .0 .0)) (lt-irrefl (t .0 .0))
 
--- what comes before y comes before a time that does not
-sooner-ahead : (x y : OptionTime) (u : Time) → T (sooner x y) → T (not (sooner (Some u) y)) → T (not (isNan (u .0 .0))) → T (sooner x (Some u))
-unfolding sooner
-sooner-ahead None y u h k known = h
-sooner-ahead (Some t) None u h k known = absurd k
-sooner-ahead (Some t) (Some b) u h k known =
-    lt-le-trans (t .0 .0) (b .0 .0) (u .0 .0) h (not-lt→le (u .0 .0) (b .0 .0) known (lt-known-r (t .0 .0) (b .0 .0) h) k)
-
 nothing-last : (x : OptionTime) → T (not (sooner x None)) → x ≡ None
 unfolding sooner
 nothing-last None h = refl
@@ -57,9 +49,6 @@ one-turn P best x i = cases (sooner x (best .time))
 
 turn-time : (best : Picked) (x : OptionTime) (i : ℕ) → T (not (sooner x (better best x i .time)))
 turn-time best x i = one-turn (λ (p : Picked). T (not (sooner x (p .time)))) best x i (λ h. sooner-irrefl x) (λ h. h)
-
-turn-part : (best : Picked) (x : OptionTime) (i : ℕ) → best .part ≤ i → better best x i .part ≤ i
-turn-part best x i below = one-turn (λ (p : Picked). p .part ≤ i) best x i (λ h. omega arith) (λ h. below)
 
 -- ---- the pick over the places from i on, from the best so far
 
@@ -111,21 +100,6 @@ none-before [] i best j = tt
 none-before (q ∷ queue) i best zero = stays (q .time) queue (i + 1) (better best (q .time) i) (turn-time best (q .time) i)
 none-before (q ∷ queue) i best (suc j) = none-before queue (i + 1) (better best (q .time) i) j
 
--- The best after the turn at a place below the picked part is not the picked one, which so comes before it.
-before-lower : (queue : List Queued) (i : ℕ) (best : Picked) (j : ℕ) (u : Time) → best .part ≤ i → i + j < pickFrom queue i best .part
-    → getD queue j noQueued .time ≡ Some u → T (not (isNan (u .0 .0))) → T (sooner (pickFrom queue i best .time) (Some u))
-before-lower [] i best j u h k e known = absurd (omega arith)
-before-lower (q ∷ queue) i best zero u h k e known =
-    let new = better best (q .time) i in
-    let picked = pickFrom queue (i + 1) new in
-    ⊎-elim (λ (same : picked ≡ new). absurd (omega (arith, ap (λ (p : Picked). p .part) same, turn-part best (q .time) i h)))
-    (λ (t : Taken queue (i + 1) new picked).
-    sooner-ahead (picked .time) (new .time) u (t .before) (subst (λ (x : OptionTime). T (not (sooner x (new .time)))) e (turn-time best (q .time) i)) known)
-    (outcome queue (i + 1) new)
-before-lower (q ∷ queue) i best (suc j) u h k e known =
-    let part = turn-part best (q .time) i h in
-    before-lower queue (i + 1) (better best (q .time) i) j u (omega arith) (omega arith) e known
-
 -- ---- the pick over the queue
 
 -- where the pick begins
@@ -170,8 +144,3 @@ module _ (queue : List Queued) where
 
       pub picked-le : T (not (isNan (u .0 .0))) → T (not (isNan (t .0 .0))) → T (le (t .0 .0) (u .0 .0))
       picked-le p q = not-lt→le (u .0 .0) (t .0 .0) p q picked-least
-
-      -- A lower part has a later time. The picked time is then no NaN, since it was found below another.
-      pub picked-lowest : i < pickOf queue .part → T (not (isNan (u .0 .0))) → T (lt (t .0 .0) (u .0 .0))
-      unfolding pickOf sooner
-      picked-lowest h p = rw e at (before-lower queue 0 nothing i u (omega arith) (omega arith) k p)

@@ -3,7 +3,7 @@ use mathlib.Core.Bool.{false, not, cond}
 use lib.Dec.{eqb}
 use Rattle.quantities.specs.declared.time.Time.{Time}
 use Rattle.quantities.specs.Doubles.{zeroF}
-use Rattle.quantities.specs.Units.{spanOf, timeOf, after}
+use Rattle.quantities.specs.Units.{spanOf, timeOf, spanAfter}
 use Rattle.rand.specs.declared.generator.Rng.{Rng}
 use Rattle.rand.specs.declared.distribution.ContinuousDistribution.{ContinuousDistribution}
 use Rattle.rand.specs.Draws.{PositiveDraw, positiveOf}
@@ -16,7 +16,7 @@ unfoldable pub newToggler : Rng → ContinuousDistribution → Toggled
 newToggler g off =
     let d = positiveOf off g in
     cond (eqb (d .number) 0)
-    (record { number = 0; toggler = record { enabled = false; «next_toggle» = after (timeOf zeroF) (spanOf (d .value)); rng = d .rng } })
+    (record { number = 0; toggler = record { enabled = false; «next_toggle» = spanAfter (timeOf zeroF) (spanOf (d .value)); rng = d .rng } })
     (record { number = d .number; toggler = record { enabled = false; «next_toggle» = timeOf zeroF; rng = g } })
 
 abbrev pub toggleWith : Toggler → PositiveDraw → TimeAnswer → Toggled

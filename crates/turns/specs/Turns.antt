@@ -1,12 +1,8 @@
--- The pieces of a tick that the loop of ticks calls, on small structs. Definitions only; the crate advance proves that together they are the tick definition.
+-- The pieces of a tick that the loop of ticks calls, on small structs. Definitions only; the crate advance proves that with `queueing` they are the tick definition.
 use Prim.Native.Nat.{ℕ}
 use mathlib.Core.Bool.{Bool, true, false, cond}
 use lib.Dec.{ltb}
-use lib.Ieee.{lt}
 use Rattle.quantities.specs.declared.time.Time.{Time}
-use Rattle.quantities.specs.declared.time.OptionTime.{OptionTime}
-use Rattle.quantities.specs.declared.time.OptionTime.the-variants as Option
-use Rattle.quantities.specs.Doubles.{power}
 use Rattle.quantities.specs.Units.{spanOf, rateOf, amountOf, since}
 use Rattle.meters.specs.declared.meter.AverageFlowMeter.{AverageFlowMeter}
 use Rattle.meters.specs.Meter.{recordedOf}
@@ -31,46 +27,23 @@ use Rattle.sender.specs.declared.lossy.Sent.{Sent}
 use Rattle.sender.specs.declared.lossy.Heard.{Heard}
 use Rattle.sender.specs.declared.lossy.Heard.the-variants as Heard
 use Rattle.sender.specs.declared.lossy.Returned.{Returned}
-use Rattle.toggler.specs.declared.toggler.Toggler.{Toggler}
-use Rattle.toggler.specs.declared.tick_queue.Queued.{Queued}
 use Rattle.link.specs.Ring.{placeAfter}
-use Rattle.link.specs.Link.{receiveOf, nextTick, tryDeliver, tryTransmit}
-use Rattle.sender.specs.Sender.{timerDue, tickTimer, tickSend, enabledOf, disabledOf, senderNext, returnedOf}
-use Rattle.toggler.specs.Queue.{noQueued}
+use Rattle.link.specs.Link.{receiveOf, tryDeliver, tryTransmit}
+use Rattle.sender.specs.Sender.{timerDue, tickTimer, tickSend, enabledOf, disabledOf, returnedOf}
 use Rattle.remy.specs.declared.network.RemyNetwork.{RemyNetwork}
-use Rattle.remy.specs.declared.simulation.Next.{Next}
-use Rattle.remy.specs.declared.simulation.Next.the-variants as Next
-use Rattle.remy.specs.declared.simulation.Head.{Head}
 use Rattle.remy.specs.declared.simulation.Mark.{Mark}
 use Rattle.remy.specs.declared.simulation.Mark.the-variants as Mark
 use Rattle.remy.specs.declared.simulation.Name.{Name}
 use Rattle.remy.specs.declared.simulation.Name.the-variants as Name
 use Rattle.remy.specs.declared.simulation.TickRecord.{TickRecord}
-use Rattle.remy.specs.State.{Role, link, sender, toggler, nobody, senderPart, togglerPart, roleOf}
+use Rattle.remy.specs.State.{sender, senderPart, togglerPart}
 use Rattle.remy.specs.Tick.{named, begunName, enabledSender, heardMark}
-use Rattle.turns.specs.declared.Now.{Now}
-use Rattle.turns.specs.declared.Now.the-variants as Now
 use Rattle.turns.specs.declared.LinkActed.{LinkActed}
 use Rattle.turns.specs.declared.Hearing.{Hearing}
 use Rattle.turns.specs.declared.Sending.{Sending}
 use Rattle.turns.specs.declared.Sending.the-variants as Sending
 use Rattle.turns.specs.declared.SenderActed.{SenderActed}
 use Rattle.turns.specs.declared.Arriving.{Arriving}
-
--- ---- whose turn it is
-
-abbrev pub nowRole : Role → Now
-nowRole link = Now.Link
-nowRole (sender i) = Now.Sender i
-nowRole (toggler i) = Now.Toggler i
-nowRole nobody = Now.Stop 9
-
-abbrev pub nowNext : Next → Time → ℕ → Now
-nowNext Next.None clock n = Now.Stop 0
-nowNext (Next.Part k) clock n = cond (lt (power 40) (clock .0 .0)) (Now.Stop 10) (nowRole (roleOf n k))
-
-unfoldable pub nowOf : Bool → Head → ℕ → Now
-nowOf fit h n = cond fit (nowNext (h .next) (h .clock) n) (Now.Stop 9)
 
 -- ---- the link
 
@@ -109,21 +82,6 @@ leftName (Left.Out p) = named p
 
 abbrev pub linkNote : Time → Left → Begun → Mark → TickRecord
 linkNote clock left begun mark = record { time = clock; part = 0; mark = mark; packet = leftName left; started = begunName begun }
-
--- ---- places in the queue
-
-abbrev pub linkSlot : Bool → Line → Time → Transit → Queued → Queued
-linkSlot changed l clock front old = cond changed (record { time = nextTick l clock (front .due) }) old
-
-abbrev pub senderSlot : Bool → LossySender → Time → Queued → Queued
-senderSlot changed x clock old = cond changed (record { time = senderNext x clock }) old
-
-abbrev pub togglerSlot : Toggler → Queued
-togglerSlot t = record { time = Option.Some (t .«next_toggle») }
-
-abbrev pub placeAfterPick : OptionTime → Queued → Queued
-placeAfterPick Option.None old = old
-placeAfterPick (Option.Some t) old = noQueued
 
 -- ---- a sender
 

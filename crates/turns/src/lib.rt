@@ -1,13 +1,12 @@
 // What a part does in its turn, as functions on small structs: the loop of ticks reads the elements
 // that a turn needs, calls these, and stores what they give. Each is a piece of the tick definition.
 //
-// All functions here are helpers for the crates `advance` and `builder`, and no entry points.
+// All functions here are helpers for the crate `advance`, and no entry points.
 ghost use mathlib.Core.Path.{_≡_};
 ghost use Prim.Native.Nat.{_+_, _*_, _≤_, _<_, _^_};
-ghost use Rattle.remy.specs.State.{roleOf};
-ghost use Rattle.remy.specs.Queue.{headOf};
 ghost use Rattle.remy.specs.Tick.{emptyRecord, begunName};
-ghost use Rattle.turns.specs.Turns.{nowRole, nowOf, leftName, ownerOf, linkActed, onLineAt, heardBy, linkNote, linkSlot, senderSlot, senderActed, arrivedAt, waitingAt, senderNote, switchedTo, togglerNote, togglerSlot, placeAfterPick};
+ghost use Rattle.turns.specs.Turns.{leftName, ownerOf, linkActed, onLineAt, heardBy, linkNote, senderActed, arrivedAt, waitingAt, senderNote, switchedTo, togglerNote};
+use lent::record_lending;
 use link::Begun;
 use link::Left;
 use link::Limit;
@@ -16,33 +15,18 @@ use link::Packet;
 use link::Transit;
 use meters::AverageFlowMeter;
 use meters::Reception;
-use meters::record_of;
 use quantities::Information;
 use quantities::InformationRate;
-use quantities::OptionTime;
 use quantities::Time;
 use quantities::TimeSpan;
-use remy::Head;
 use remy::Mark;
 use remy::Name;
-use remy::Next;
 use remy::RemyNetwork;
 use remy::TickRecord;
 use sender::Heard;
 use sender::LossySender;
 use sender::Policy;
 use sender::SenderState;
-use toggler::Picked;
-use toggler::Queued;
-use toggler::Toggler;
-
-// Whose turn it is: a part's, or nobody's with the number of the stop (0 for idle).
-pub enum Now {
-    Stop(u32),
-    Link,
-    Sender(usize),
-    Toggler(usize),
-}
 
 // What the link did: the number, the packet that left, the packet that started with its place, and
 // the line.
@@ -83,41 +67,6 @@ pub struct Arriving {
     pub at: usize,
     pub mark: Mark,
     pub line: Line,
-}
-
-// 9, idle and 10, and then the part by its number.
-pub fn whose_turn(fit: bool, head: Head, senders: u32) -> Now
-    ensures { λ r. ⌜ r ≡ nowOf fit head senders ⌝ }
-{
-    if !fit {
-        return Now::Stop(9);
-    }
-    let next = head.next;
-    let Next::Part(k) = next else {
-        return Now::Stop(0);
-    };
-    if 1099511627776.0 < head.clock.0.0 {
-        return Now::Stop(10);
-    }
-    role(k, senders)
-}
-
-fn role(k: usize, senders: u32) -> Now
-    ensures { λ r. ⌜ r ≡ nowRole (roleOf senders k) ⌝ }
-{
-    if k == 0 {
-        return Now::Link;
-    }
-    let i = (k - 1) / 2;
-    if i < senders as usize {
-        if k % 2 == 1 {
-            Now::Sender(i)
-        } else {
-            Now::Toggler(i)
-        }
-    } else {
-        Now::Stop(9)
-    }
 }
 
 // The sender of a packet, as an index that is there.
@@ -216,7 +165,7 @@ pub fn hear(
                 Heard::Counted => {
                     let rtt = clock.sub(p.sent_time);
                     let data = Information(network.bits);
-                    let m = record_of(meter, Reception { data, rtt }, clock);
+                    let m = record_lending(meter, Reception { data, rtt }, clock);
                     let meter = m.meter;
                     Hearing {
                         heard: true,
@@ -262,27 +211,6 @@ fn begun_name(begun: Begun) -> Name
         Begun::Nobody => Name::None,
         Begun::Starts(x) => Name::Packet(x.packet.sender, x.packet.seq),
     }
-}
-
-// The link's place in the queue, and a sender's: anew where something changed, else as it was.
-pub fn link_slot(changed: bool, line: Line, clock: Time, front: Transit, old: Queued) -> Queued
-    ensures { λ r. ⌜ r ≡ linkSlot changed line clock front old ⌝ }
-{
-    if !changed {
-        return old;
-    }
-    let time = link::next_tick(line, clock, front.due);
-    Queued { time }
-}
-
-pub fn sender_slot(changed: bool, sender: LossySender, clock: Time, old: Queued) -> Queued
-    ensures { λ r. ⌜ r ≡ senderSlot changed sender clock old ⌝ }
-{
-    if !changed {
-        return old;
-    }
-    let time = sender.next_tick(clock);
-    Queued { time }
 }
 
 // A sender's turn: a timer equal to the clock goes first and alone; else one packet.
@@ -448,44 +376,6 @@ pub fn toggler_note(clock: Time, i: usize, on: bool) -> TickRecord
             packet: Name::None,
             started: Name::None,
         }
-    }
-}
-
-pub fn toggler_slot(toggler: Toggler) -> Queued
-    ensures { λ r. ⌜ r ≡ togglerSlot toggler ⌝ }
-{
-    let at = toggler.next_toggle;
-    let time = OptionTime::Some(at);
-    Queued { time }
-}
-
-// The clock and the next part after a pick.
-pub fn head_of(best: Picked) -> Head
-    ensures { λ r. ⌜ r ≡ headOf best (best .time) ⌝ }
-{
-    let time = best.time;
-    match time {
-        OptionTime::None => Head {
-            clock: Time(TimeSpan(1.7976931348623157e308)),
-            next: Next::None,
-        },
-        OptionTime::Some(clock) => Head {
-            clock,
-            next: Next::Part(best.part),
-        },
-    }
-}
-
-// The picked place after a pick: removed, if anything was picked.
-pub fn place_after(best: Picked, old: Queued) -> Queued
-    ensures { λ r. ⌜ r ≡ placeAfterPick (best .time) old ⌝ }
-{
-    let time = best.time;
-    match time {
-        OptionTime::None => old,
-        OptionTime::Some(_) => Queued {
-            time: OptionTime::None,
-        },
     }
 }
 

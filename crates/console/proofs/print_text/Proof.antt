@@ -5,8 +5,8 @@ use lib.ListN.{length}
 use borrow.Author.Needs.{needs}
 use Rattle.report.specs.declared.run.Report.{Report}
 use Rattle.report.specs.Report.{leftOf}
-use Rattle.report.proofs.Few.{text-few}
-use Rattle.report.proofs.Printed.{for-each}
+use Rattle.filling.proofs.Few.{text-few}
+use Rattle.report.proofs.Texts.{for-each}
 use Rattle.console.specs.Turns.{HandedIs}
 use Rattle.console.proofs.print_text.Statement.{statement}
 use Rattle.console.proofs.print_text.Tie as tie

@@ -46,17 +46,17 @@ use denote.Triple.Entry.{onEntry}
 use denote.Triple.Spec.{Meets, tripleOf}
 use denote.Triple.Table.{entered, cited}
 use denote.Triple.Walked.{says, needs, Stays, stay-none, walkOf, goes-none, Walks, ends-at, walked, walk-meets}
-use Rattle.meters.specs.declared.flow.FlowProperties.{FlowProperties}
-use Rattle.meters.specs.declared.sums.Mean.{Mean}
-use Rattle.meters.specs.Average.{averageOf, toldMean}
-use Rattle.meters.proofs.Plain.{Data, rowOf, data-makes, struct, laid, taken}
-use Rattle.meters.proofs.flow.FlowProperties as F
-use Rattle.meters.proofs.flow.FlowProperties.Laws as F′
-use Rattle.meters.proofs.sums.Mean as R
-use Rattle.meters.proofs.sums.Mean.Laws as R′
-use Rattle.meters.proofs.lent.average as average
-use Rattle.meters.proofs.lent.average.Symbol as average-def
-use Rattle.meters.proofs.lent.average.Met as average-thm
+use Rattle.flows.specs.declared.flow.FlowProperties.{FlowProperties}
+use Rattle.flows.specs.declared.sums.Mean.{Mean}
+use Rattle.flows.specs.Average.{averageOf, toldMean}
+use Rattle.lent.proofs.Plain.{Data, rowOf, data-makes, struct, laid, taken}
+use Rattle.flows.proofs.flow.FlowProperties as F
+use Rattle.flows.proofs.flow.FlowProperties.Laws as F′
+use Rattle.flows.proofs.sums.Mean as R
+use Rattle.flows.proofs.sums.Mean.Laws as R′
+use Rattle.lent.proofs.average as average
+use Rattle.lent.proofs.average.Symbol as average-def
+use Rattle.lent.proofs.average.Met as average-thm
 use Rattle.meter_scripts.proofs.average_first.Key as key
 use Rattle.meter_scripts.proofs.average_first as f
 use Rattle.meter_scripts.proofs.average_first.Statement.{statement}
@@ -200,4 +200,4 @@ average-first-spec 𝓤 H 𝓜 𝓖 𝓡 =
     entered 𝓤 H (tripleOf 𝓤 H (𝓖 .A) f.signature (f.spec 𝓤 H (𝓖 .A) (𝓜 .mem) (𝓡 .run)))
     (tables 𝓤 H 𝓜 𝓡 code.env .C) (tables 𝓤 H 𝓜 𝓡 code.env .Λ) key.name code.function (code.unfolded 𝓤 H 𝓜 𝓡)
     (meets 𝓤 H (𝓖 .A) (givenOf 𝓤 H 𝓜 𝓖) (𝓜 .mem) (𝓡 .run) (tablesOf 𝓤 H 𝓜 (tables 𝓤 H 𝓜 𝓡 code.env))
-    (cited 𝓤 H (Average 𝓤 H (𝓖 .A) (𝓜 .mem) (𝓡 .run)) 𝓜 𝓡 code.env average-def.name average-def.routine code.calls-meters·lent·average (average-thm.met 𝓤 H 𝓜 𝓖 𝓡)))
+    (cited 𝓤 H (Average 𝓤 H (𝓖 .A) (𝓜 .mem) (𝓡 .run)) 𝓜 𝓡 code.env average-def.name average-def.routine code.calls-lent·average (average-thm.met 𝓤 H 𝓜 𝓖 𝓡)))

@@ -2,7 +2,7 @@
 -- Assumes nothing.
 use native.Mathlib.Omega.{arith}
 use borrow.Author.Needs.{needs}
-use Rattle.printer.specs.Printing.{recordOf}
+use Rattle.printer.specs.Printing.{recordText}
 use Rattle.printer.proofs.Buffer.{put-full, put-five}
 use Rattle.printer.proofs.record_line.Statement.{statement}
 use Rattle.printer.proofs.record_line.Tie as tie
@@ -47,7 +47,7 @@ same-length : tie.Need-same-length
 same-length c = search needs
 
 returns : tie.Need-returns
-unfolding recordOf
+unfolding recordText
 returns c =
     let end = c .before .before in
     let line = end .before .before .before .before in

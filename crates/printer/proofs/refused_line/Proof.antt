@@ -2,7 +2,7 @@
 -- Assumes nothing.
 use native.Mathlib.Omega.{arith}
 use borrow.Author.Needs.{needs}
-use Rattle.printer.specs.Printing.{refusedOf}
+use Rattle.printer.specs.Printing.{refusedText}
 use Rattle.printer.proofs.Buffer.{wrote-then, put-full, put-done}
 use Rattle.printer.proofs.refused_line.Statement.{statement}
 use Rattle.printer.proofs.refused_line.Tie as tie
@@ -23,7 +23,7 @@ same-length : tie.Need-same-length
 same-length c = search needs
 
 returns : tie.Need-returns
-unfolding refusedOf
+unfolding refusedText
 returns c =
     let end = c .before .before in
     let number = end .before .before .before .before in

@@ -2,7 +2,7 @@
 -- Assumes nothing.
 use native.Mathlib.Omega.{arith}
 use borrow.Author.Needs.{needs}
-use Rattle.printer.specs.Printing.{stopOf}
+use Rattle.printer.specs.Printing.{stopText}
 use Rattle.printer.proofs.Buffer.{wrote-then, put-full, put-done}
 use Rattle.printer.proofs.stop_line.Statement.{statement}
 use Rattle.printer.proofs.stop_line.Tie as tie
@@ -29,7 +29,7 @@ same-length : tie.Need-same-length
 same-length c = search needs
 
 returns : tie.Need-returns
-unfolding stopOf
+unfolding stopText
 returns c =
     let end = c .before .before in
     let clock = end .before .before .before .before in

@@ -28,8 +28,8 @@ enum-told-5 c = search needs
 sub-requires : tie.Need-sub-requires
 sub-requires c κs = search needs
 
-record-of-requires : tie.Need-record-of-requires
-record-of-requires c κs = search needs
+record-lending-requires : tie.Need-record-lending-requires
+record-lending-requires c κs = search needs
 
 returns : tie.Need-returns
 unfolding heardBy
@@ -61,7 +61,7 @@ returns-5 : tie.Need-returns-5
 unfolding heardBy
 returns-5 c =
     rw (
-      c .before .record-of .ensures,
+      c .before .record-lending .ensures,
       c .before .before .sub .ensures,
       c .before .before .before .before .before .before .before .before .left .given .1,
       ← c .before .before .before .before .before .before .receive-packet .ensures,
@@ -80,7 +80,7 @@ hear-spec =
     enum-told-4
     enum-told-5
     sub-requires
-    record-of-requires
+    record-lending-requires
     returns
     returns-2
     returns-3

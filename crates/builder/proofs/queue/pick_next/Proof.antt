@@ -4,7 +4,7 @@ use Prim.Native.Nat.{_<_}
 use mathlib.Core.Path.{_≡_}
 use lib.ListN.{length, length-map}
 use borrow.Author.Needs.{needs}
-use Rattle.turns.proofs.Picks.{part-inside, picks}
+use Rattle.queueing.proofs.Picks.{part-inside, picks}
 use Rattle.builder.proofs.queue.pick_next.Statement.{statement}
 use Rattle.builder.proofs.queue.pick_next.Tie as tie
 

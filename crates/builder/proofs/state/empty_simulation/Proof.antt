@@ -2,7 +2,7 @@
 use lib.Ieee.{ofBits}
 use borrow.Author.Needs.{needs}
 use Rattle.remy.specs.Build.{emptySimulation}
-use Rattle.builder.proofs.Making.{none-senders, none-togglers}
+use Rattle.parts.proofs.Making.{none-senders, none-togglers}
 use Rattle.builder.proofs.state.empty_simulation.Statement.{statement}
 use Rattle.builder.proofs.state.empty_simulation.Tie as tie
 

@@ -1,7 +1,7 @@
 -- Each return is what the results of the groups so far say of `fit`. Assumes nothing.
 use borrow.Author.Tests.{not-true, not-false}
 use borrow.Author.Needs.{needs}
-use Rattle.fitness.proofs.Bounds.{passed-frame}
+use Rattle.ranges.proofs.Bounds.{passed-frame}
 use Rattle.fitness.proofs.Groups.{by-counts, stops-frame, stops-packets, stops-senders, ends-queue}
 use Rattle.fitness.proofs.whole.is_fit.Statement.{statement}
 use Rattle.fitness.proofs.whole.is_fit.Tie as tie

@@ -14,11 +14,11 @@ abbrev μ-loop : tie.MeasureT-loop
 loop-holds : tie.Need-loop-holds Inv-loop μ-loop
 loop-holds c = search needs
 
-shared-slice-read-step-byte : tie.Need-shared-slice-read-step-byte Inv-loop μ-loop
-shared-slice-read-step-byte c = search needs
+shared-slice-read-step : tie.Need-shared-slice-read-step Inv-loop μ-loop
+shared-slice-read-step c = search needs
 
-step-byte-requires : tie.Need-step-byte-requires Inv-loop μ-loop
-step-byte-requires c κs = search needs
+step-requires : tie.Need-step-requires Inv-loop μ-loop
+step-requires c κs = search needs
 
 add-i : tie.Need-add-i Inv-loop μ-loop
 add-i c = search needs
@@ -39,8 +39,8 @@ fold-spec =
     Inv-loop
     μ-loop
     loop-holds
-    shared-slice-read-step-byte
-    step-byte-requires
+    shared-slice-read-step
+    step-requires
     add-i
     loop-less
     loop-again

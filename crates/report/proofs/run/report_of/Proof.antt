@@ -1,7 +1,7 @@
 -- The report of what the text is read as. Assumes nothing.
 use mathlib.Core.Path.{refl, sym, ap, _∙_}
 use Rattle.report.specs.Report.{reportOf}
-use Rattle.report.proofs.Printed.{for-text}
+use Rattle.report.proofs.Texts.{for-text}
 use borrow.Author.Needs.{needs}
 use Rattle.report.proofs.run.report_of.Statement.{statement}
 use Rattle.report.proofs.run.report_of.Tie as tie

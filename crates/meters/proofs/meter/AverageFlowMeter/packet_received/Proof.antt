@@ -55,7 +55,7 @@ returns-5 c =
       passed (c .before .before .before .before .before .before .in-range .ensures) (c .before .before .before .before .before .if2 .left),
       le-leb _ _ (c .before .before .before .if3 .left),
       le-leb _ _ (c .before .if4 .left),
-      le-ltb (c .before .before .before .before .before .before .before .before .before .args .self .records) 16777216 (omega (arith, c .if5 .taken)),
+      le-ltb (c .before .before .before .before .before .before .before .before .before .before .before .args .self .records) 16777216 (omega (arith, c .if5 .taken)),
     )
 
 add-requires : tie.Need-add-requires
@@ -81,7 +81,7 @@ returns-6 c =
       passed (c .before .before .before .before .before .before .before .before .before .in-range .ensures) (c .before .before .before .before .before .before .before .before .if2 .left),
       le-leb _ _ (c .before .before .before .before .before .before .if3 .left),
       le-leb _ _ (c .before .before .before .before .if4 .left),
-      lt-ltb (c .before .before .before .before .before .before .before .before .before .before .before .before .args .self .records) 16777216 (omega (arith, c .before .before .before .if5 .left)),
+      lt-ltb (c .before .before .before .before .before .before .before .before .before .before .before .before .before .before .args .self .records) 16777216 (omega (arith, c .before .before .before .if5 .left)),
     )
 
 pub packet-received-spec : {M : Type 1} → statement M

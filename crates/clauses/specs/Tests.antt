@@ -1,0 +1,181 @@
+-- The clauses of `fit` (the crate `remy`, specs/Fit.antt) by the parts of the state that they read: a test for each packet, one for each sender with its toggler
+-- and meter, and one for each place of the queue. Definitions only. Their conjunction with `frameTest` (the crate `ranges`) is `fit` (`Groups` in the proofs of
+-- `fitness`), which the contract of `is_fit` cites; the contracts of its parts cite these.
+use Prim.Native.Nat.{ℕ, _+_, _*_, _≤_, _<_}
+use mathlib.Core.Path.{_≡_}
+use mathlib.Core.Bool.{Bool, true, not, _&&_, _||_, Bool·beq, cond}
+use mathlib.Core.List.{List, [], _∷_}
+use lib.Dec.{leb, ltb, eqb}
+use lib.ListN.{getD}
+use lib.Ieee.{le}
+use Rattle.quantities.specs.declared.time.Time.{Time}
+use Rattle.quantities.specs.declared.time.OptionTime.{OptionTime}
+use Rattle.quantities.specs.declared.time.OptionTime.the-variants.{None, Some}
+use Rattle.meters.specs.declared.meter.AverageFlowMeter.{AverageFlowMeter}
+use Rattle.meters.specs.Meter.{isOn, totalFit, sumFit}
+use Rattle.link.specs.declared.packet.Packet.{Packet}
+use Rattle.link.specs.declared.packet.Transit.{Transit}
+use Rattle.link.specs.declared.ring.Ring.{Ring}
+use Rattle.link.specs.declared.link.Line.{Line}
+use Rattle.sender.specs.declared.lossy.Policy.{Policy}
+use Rattle.sender.specs.declared.lossy.SenderState.{SenderState}
+use Rattle.sender.specs.declared.lossy.Enabled.{Enabled}
+use Rattle.sender.specs.declared.lossy.LossySender.{LossySender}
+use Rattle.toggler.specs.declared.toggler.Toggler.{Toggler}
+use Rattle.toggler.specs.declared.tick_queue.Queued.{Queued}
+use Rattle.link.specs.Ring.{items}
+use Rattle.link.specs.Link.{nextTick}
+use Rattle.sender.specs.Sender.{senderNext}
+use Rattle.toggler.specs.Queue.{queuePlaces, noQueued}
+use Rattle.sender.specs.declared.lossy.SenderState.the-variants as State
+use Rattle.remy.specs.declared.simulation.Next.{Next}
+use Rattle.remy.specs.Network.{between, windowFit}
+use Rattle.remy.specs.State.{Role, link, sender, toggler, nobody, roleOf, noSender, noToggler, noMeter, noPacket, noTransit}
+use Rattle.remy.specs.Fit.{every, upTo, held, isNext, isTimed, senderOn, sameTime, rising}
+use Rattle.remy.specs.declared.simulation.Next.the-variants as Next
+use Rattle.ranges.specs.Frame.{pastTest}
+
+-- ---- packets
+
+-- no packet on the line is due later than a time
+unfoldable pub soonTest : Time → List Transit → Ring → Bool
+soonTest latest slots ring = every (λ x. le (x .due .0 .0) (latest .0 .0)) (items noTransit slots ring)
+
+-- a packet of a sender that sent so many
+unfoldable pub sentTest : ℕ → Time → Packet → Bool
+sentTest sent clock p = between 1 sent (p .seq) && pastTest clock (p .«sent_time»)
+
+-- a packet, among n senders
+unfoldable pub packetTest : List LossySender → ℕ → Time → Packet → Bool
+packetTest senders n clock p = ltb (p .sender) n && sentTest (getD senders (p .sender) noSender .«packets_sent») clock p
+
+-- a packet on the line
+unfoldable pub transitTest : List LossySender → ℕ → Time → Transit → Bool
+transitTest senders n clock x = packetTest senders n clock (x .packet) && held (x .due)
+
+-- the packets that wait, and those on the line
+unfoldable pub waitingTest : List LossySender → ℕ → Time → List Packet → Ring → Bool
+waitingTest senders n clock slots ring = every (packetTest senders n clock) (items noPacket slots ring)
+
+unfoldable pub onLineTest : List LossySender → ℕ → Time → List Transit → Ring → Bool
+onLineTest senders n clock slots ring = every (transitTest senders n clock) (items noTransit slots ring)
+
+-- due times do not fall
+unfoldable pub dueTest : List Transit → Ring → Bool
+dueTest slots ring = rising (items noTransit slots ring)
+
+unfoldable pub packetsTest : List LossySender → ℕ → Time → List Packet → Ring → List Transit → Ring → Bool
+packetsTest senders n clock waiting waits onLine moves =
+    waitingTest senders n clock waiting waits && onLineTest senders n clock onLine moves && dueTest onLine moves
+
+-- the first due time
+abbrev pub firstDue : List Transit → Ring → Time
+firstDue slots ring = getD slots (ring .start) noTransit .due
+
+-- how many members pass a test
+abbrev pub tally : {A : Type 0} → (A → Bool) → List A → ℕ
+tally f [] = 0
+tally f (x ∷ xs) = cond (f x) 1 0 + tally f xs
+
+-- a sender's packets that wait, and those on the line
+unfoldable pub waitingOf : ℕ → List Packet → Ring → ℕ
+waitingOf i slots ring = tally (λ p. eqb (p .sender) i) (items noPacket slots ring)
+
+unfoldable pub onLineOf : ℕ → List Transit → Ring → ℕ
+onLineOf i slots ring = tally (λ x. eqb (x .packet .sender) i) (items noTransit slots ring)
+
+-- no count of the 16 senders is above the places of a ring
+pub record Few (counts : List ℕ) : Type 0 where
+  pub few : (i : ℕ) → i < 16 → getD counts i 0 ≤ 512
+
+-- the counts of the 16 senders in a ring: element i is sender i's; a packet of another sender is counted nowhere
+pub record Counts (of : ℕ → ℕ) (counts : List ℕ) : Type 0 where
+  pub each : (i : ℕ) → i < 16 → getD counts i 0 ≡ of i
+  pub most : Few counts
+
+-- ---- a sender with its toggler and meter
+
+-- a timer is held, and its policy is timed
+unfoldable pub timerTest : Policy → OptionTime → Bool
+timerTest policy None = true
+timerTest policy (Some t) = held t && isTimed policy
+
+unfoldable pub enabledTest : Policy → Time → Enabled → Bool
+enabledTest policy clock e =
+    pastTest clock (e .started) && leb (e .«greatest_ack») 16777216 && windowFit (e .cwnd) && timerTest policy (e .timer)
+
+unfoldable pub stateTest : Policy → Time → SenderState → Bool
+stateTest policy clock State.WaitingForEnable = true
+stateTest policy clock (State.Enabled e) = enabledTest policy clock e
+
+unfoldable pub startTest : Time → OptionTime → Bool
+startTest clock None = true
+startTest clock (Some t) = pastTest clock t
+
+-- a meter, for packets of so many bits
+unfoldable pub meterTest : ℕ → Time → AverageFlowMeter → Bool
+meterTest bits clock m =
+    startTest clock (m .«current_start») && totalFit (m .«total_time») && sumFit (m .records) (m .«rtt_sum») && eqb (m .total .0) (m .records * bits)
+
+-- toggler, sender and meter agree on on/off
+unfoldable pub agreeTest : Bool → SenderState → OptionTime → Bool
+agreeTest enabled state start = Bool·beq enabled (senderOn state) && Bool·beq (senderOn state) (isOn start)
+
+-- what was sent, with so many packets waiting and so many on the line
+unfoldable pub sentCountTest : ℕ → ℕ → ℕ → ℕ → Bool
+sentCountTest sent records waiting onLine = leb sent 16777216 && leb (records + waiting + onLine) sent
+
+unfoldable pub senderTest : Policy → ℕ → Time → LossySender → Toggler → AverageFlowMeter → ℕ → ℕ → Bool
+senderTest policy bits clock s t m waiting onLine =
+    stateTest policy clock (s .state)
+    && held (t .«next_toggle»)
+    && meterTest bits clock m
+    && sentCountTest (s .«packets_sent») (m .records) waiting onLine
+    && agreeTest (t .enabled) (s .state) (m .«current_start»)
+
+-- the first n senders, where so many of sender i's packets wait and so many are on the line
+module _ (policy : Policy) (bits : ℕ) (clock : Time) (waiting onLine : ℕ → ℕ) where
+  unfoldable pub sendersTest : ℕ → List LossySender → List Toggler → List AverageFlowMeter → Bool
+  sendersTest n senders togglers meters =
+      upTo n
+      (λ i.
+      senderTest policy bits clock (getD senders i noSender) (getD togglers i noToggler) (getD meters i noMeter) (waiting i) (onLine i))
+
+-- ---- the queue
+
+-- a part's own next time
+unfoldable pub roleTime : Line → Time → Time → List LossySender → List Toggler → Role → OptionTime
+roleTime line clock due senders togglers link = nextTick line clock due
+roleTime line clock due senders togglers (sender i) = senderNext (getD senders i noSender) clock
+roleTime line clock due senders togglers (toggler i) = Some (getD togglers i noToggler .«next_toggle»)
+roleTime line clock due senders togglers nobody = None
+
+-- a queued time is held and not below the clock
+unfoldable pub queuedTest : Time → OptionTime → Bool
+queuedTest clock None = true
+queuedTest clock (Some t) = held t && le (clock .0 .0) (t .0 .0)
+
+-- a place with what is queued there and the own next time of its part, which is not compared for the next part
+unfoldable pub placeTest : Next → Time → ℕ → OptionTime → OptionTime → Bool
+placeTest next clock k queued own = queuedTest clock queued && (isNext next k || sameTime queued own)
+
+-- nothing is queued in the first n places
+unfoldable pub emptyTest : ℕ → List Queued → Bool
+emptyTest n queue = upTo n (λ k. not (isOn (getD queue k noQueued .time)))
+
+module _ (count : ℕ) (line : Line) (clock due : Time) (senders : List LossySender) (togglers : List Toggler) where
+  -- the own next time of part k, among so many senders
+  unfoldable pub partTime : ℕ → OptionTime
+  partTime k = roleTime line clock due senders togglers (roleOf count k)
+
+  -- the next part's own next time is the clock; nothing is queued where there is none
+  unfoldable pub nextTest : List Queued → Next → Bool
+  nextTest queue Next.None = emptyTest queuePlaces queue
+  nextTest queue (Next.Part j) = sameTime (Some clock) (partTime j)
+
+  -- the first n places
+  unfoldable pub placesTest : ℕ → List Queued → Next → Bool
+  placesTest n queue next = upTo n (λ k. placeTest next clock k (getD queue k noQueued .time) (partTime k))
+
+  unfoldable pub queueTest : List Queued → Next → Bool
+  queueTest queue next = nextTest queue next && placesTest queuePlaces queue next

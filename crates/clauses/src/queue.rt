@@ -1,0 +1,188 @@
+ghost use mathlib.Core.Path.{_≡_};
+ghost use Prim.Native.Nat.{_≤_};
+ghost use Rattle.remy.specs.Fit.{isNext, sameTime};
+ghost use Rattle.clauses.specs.Tests.{queuedTest, placeTest, emptyTest, partTime, nextTest, placesTest, queueTest};
+use crate::senders::is_on;
+use link::Line;
+use link::next_tick;
+use quantities::OptionTime;
+use quantities::Time;
+use ranges::frame::time_held;
+use remy::Next;
+use sender::LossySender;
+use toggler::Queued;
+use toggler::Toggler;
+
+// The own next time of part k, among n senders. `due` is the first due time on the line.
+//
+// A helper, and no entry point, as are the others here with a `requires`: the caller shows that there
+// are at most 16 senders.
+fn part_time(
+    n: u32,
+    line: Line,
+    clock: Time,
+    due: Time,
+    senders: [LossySender; 16],
+    togglers: [Toggler; 16],
+    k: usize,
+) -> OptionTime
+    requires { ⌜ n ≤ 16 ⌝ }
+    ensures { λ r. ⌜ r ≡ partTime n line clock due senders togglers k ⌝ }
+{
+    if k == 0 {
+        return next_tick(line, clock, due);
+    }
+    let i = (k - 1) / 2;
+    if i >= n as usize {
+        return OptionTime::None;
+    }
+    if k % 2 == 1 {
+        let sender = senders[i];
+        return sender.next_tick(clock);
+    }
+    let toggler = togglers[i];
+    let next = toggler.next_toggle;
+    OptionTime::Some(next)
+}
+
+// Whether two times are equal, or both are absent.
+fn same_time(a: OptionTime, b: OptionTime) -> bool
+    ensures { λ r. ⌜ r ≡ sameTime a b ⌝ }
+{
+    match a {
+        OptionTime::None => match b {
+            OptionTime::None => true,
+            OptionTime::Some(_) => false,
+        },
+        OptionTime::Some(t) => match b {
+            OptionTime::None => false,
+            OptionTime::Some(u) => t.0.0 == u.0.0,
+        },
+    }
+}
+
+// Whether part k is the next part.
+fn is_next(next: Next, k: usize) -> bool
+    ensures { λ r. ⌜ r ≡ isNext next k ⌝ }
+{
+    match next {
+        Next::None => false,
+        Next::Part(j) => j == k,
+    }
+}
+
+// Whether a queued time is at most 2^41 and not below the clock, or nothing is queued.
+fn queued_fit(clock: Time, queued: OptionTime) -> bool
+    ensures { λ r. ⌜ r ≡ queuedTest clock queued ⌝ }
+{
+    match queued {
+        OptionTime::None => true,
+        OptionTime::Some(t) => {
+            if !time_held(t) {
+                return false;
+            }
+            clock.0.0 <= t.0.0
+        }
+    }
+}
+
+// Whether what is queued at place k is fit, where `own` is the part's own next time.
+fn place_fit(next: Next, clock: Time, k: usize, queued: OptionTime, own: OptionTime) -> bool
+    ensures { λ r. ⌜ r ≡ placeTest next clock k queued own ⌝ }
+{
+    if !queued_fit(clock, queued) {
+        return false;
+    }
+    if is_next(next, k) {
+        return true;
+    }
+    same_time(queued, own)
+}
+
+// Whether nothing is queued.
+fn is_empty(queue: [Queued; 33]) -> bool
+    ensures { λ r. ⌜ r ≡ emptyTest 33 queue ⌝ }
+{
+    let mut k = 0;
+    while k < 33 {
+        let queued = queue[k];
+        let time = queued.time;
+        if is_on(time) {
+            return false;
+        }
+        k += 1;
+    }
+    true
+}
+
+// Whether the next part's own next time is the clock, or nothing is queued where no part is next.
+fn next_fit(
+    n: u32,
+    line: Line,
+    clock: Time,
+    due: Time,
+    senders: [LossySender; 16],
+    togglers: [Toggler; 16],
+    queue: [Queued; 33],
+    next: Next,
+) -> bool
+    requires { ⌜ n ≤ 16 ⌝ }
+    ensures { λ r. ⌜ r ≡ nextTest n line clock due senders togglers queue next ⌝ }
+{
+    match next {
+        Next::None => is_empty(queue),
+        Next::Part(j) => {
+            let own = part_time(n, line, clock, due, senders, togglers, j);
+            same_time(OptionTime::Some(clock), own)
+        }
+    }
+}
+
+// Whether each place of the queue is fit.
+fn places_fit(
+    n: u32,
+    line: Line,
+    clock: Time,
+    due: Time,
+    senders: [LossySender; 16],
+    togglers: [Toggler; 16],
+    queue: [Queued; 33],
+    next: Next,
+) -> bool
+    requires { ⌜ n ≤ 16 ⌝ }
+    ensures { λ r. ⌜ r ≡ placesTest n line clock due senders togglers 33 queue next ⌝ }
+{
+    let mut k = 0;
+    while k < 33 {
+        let queued = queue[k];
+        let time = queued.time;
+        let own = part_time(n, line, clock, due, senders, togglers, k);
+        if !place_fit(next, clock, k, time, own) {
+            return false;
+        }
+        k += 1;
+    }
+    true
+}
+
+// Whether the next part and each place of the queue are fit.
+//
+// For `fitness`: `is_fit` has tested the senders' number.
+pub fn queue_fit(
+    n: u32,
+    line: Line,
+    clock: Time,
+    due: Time,
+    senders: [LossySender; 16],
+    togglers: [Toggler; 16],
+    queue: [Queued; 33],
+    next: Next,
+) -> bool
+    requires { ⌜ n ≤ 16 ⌝ }
+    ensures { λ r. ⌜ r ≡ queueTest n line clock due senders togglers queue next ⌝ }
+{
+    if !next_fit(n, line, clock, due, senders, togglers, queue, next) {
+        return false;
+    }
+    places_fit(n, line, clock, due, senders, togglers, queue, next)
+}

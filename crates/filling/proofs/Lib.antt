@@ -1,0 +1,4 @@
+mod Putting
+mod Running
+mod Printed
+pub mod Few

@@ -1,0 +1,27 @@
+-- `parts::no_parts` meets its contract: it is the literal of the definition. Assumes nothing.
+use lib.Ieee.{ofBits}
+use borrow.Author.Needs.{needs}
+use Rattle.parts.proofs.no_parts.Statement.{statement}
+use Rattle.parts.proofs.no_parts.Tie as tie
+
+zero-words-requires : tie.Need-zero-words-requires
+zero-words-requires c κs = search needs
+
+new-sender-requires : tie.Need-new-sender-requires
+new-sender-requires c κs = search needs
+
+blank-toggler-requires : tie.Need-blank-toggler-requires
+blank-toggler-requires c κs = search needs
+
+returns : tie.Need-returns
+unfolding ofBits
+returns c =
+    rw (
+      c .blank-toggler .ensures,
+      c .before .new-sender .ensures,
+      c .before .before .zero-words .ensures,
+    )
+
+pub no-parts-spec : {M : Type 1} → statement M
+no-parts-spec =
+    tie.close (tie.spec zero-words-requires new-sender-requires blank-toggler-requires returns)

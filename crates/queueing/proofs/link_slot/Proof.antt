@@ -1,0 +1,21 @@
+-- Each return rewrites by the tests and the cases that led there. Assumes nothing.
+use borrow.Author.Tests.{not-false, not-true}
+use borrow.Author.Needs.{needs}
+use Rattle.queueing.proofs.link_slot.Statement.{statement}
+use Rattle.queueing.proofs.link_slot.Tie as tie
+
+returns : tie.Need-returns
+returns c = rw (not-true (c .before .args .changed) (c .if1 .taken))
+
+next-tick-requires : tie.Need-next-tick-requires
+next-tick-requires c κs = search needs
+
+returns-2 : tie.Need-returns-2
+returns-2 c =
+    rw (
+      c .next-tick .ensures,
+      not-false (c .before .before .args .changed) (c .before .if1 .left),
+    )
+
+pub link-slot-spec : {M : Type 1} → statement M
+link-slot-spec = tie.close (tie.spec returns next-tick-requires returns-2)

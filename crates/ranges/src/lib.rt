@@ -1,0 +1,117 @@
+// The ranges of a network (document 01, "Stops", rows 1 to 7), and those of clock and line (the paragraph
+// "Unfit").
+ghost use mathlib.Core.Bool.{cond};
+ghost use mathlib.Core.Path.{_≡_};
+ghost use Rattle.remy.specs.Network.{limitFit, sizesFit, timesFit, windowFit, policyFit, networkStop};
+
+pub mod frame;
+
+use link::Limit;
+use quantities::float::in_range;
+use rand::ContinuousDistribution;
+use remy::RemyNetwork;
+use sender::Policy;
+
+// The number of the lowest range that a network is not in, 1 to 7, or 0.
+pub fn network_stop(network: RemyNetwork) -> u32
+    ensures { λ r. ⌜ r ≡ networkStop network ⌝ }
+{
+    let limit = network.limit;
+    let on = network.on;
+    let off = network.off;
+    let policy = network.policy;
+    let from_7 = stop_unless(policy_fit(policy), 7, 0);
+    let from_6 = stop_unless(times_fit(on), 6, stop_unless(times_fit(off), 6, from_7));
+    let from_5 = stop_unless(sizes_fit(network.bits, network.senders), 5, from_6);
+    let from_4 = stop_unless(limit_fit(limit), 4, from_5);
+    let from_3 = stop_unless(in_range(0.0, 1.0, network.loss), 3, from_4);
+    let from_2 = stop_unless(in_range(1.0, 1125899906842624.0, network.rate), 2, from_3);
+    stop_unless(in_range(0.0, 1048576.0, network.delay), 1, from_2)
+}
+
+// A number where a test fails, and what the tests after it give where it passes.
+fn stop_unless(fit: bool, number: u32, later: u32) -> u32
+    ensures { λ r. ⌜ r ≡ cond fit later number ⌝ }
+{
+    if fit { later } else { number }
+}
+
+// Whether a limit is absent or at most 2^50 bits.
+fn limit_fit(limit: Limit) -> bool
+    ensures { λ r. ⌜ r ≡ limitFit limit ⌝ }
+{
+    match limit {
+        Limit::None => true,
+        Limit::Bits(most) => most <= 1125899906842624,
+    }
+}
+
+// Whether a packet has 1 to 2^24 bits, and there are at most 16 senders.
+fn sizes_fit(bits: u64, senders: u32) -> bool
+    ensures { λ r. ⌜ r ≡ sizesFit bits senders ⌝ }
+{
+    if bits < 1 {
+        return false;
+    }
+    if bits > 16777216 {
+        return false;
+    }
+    senders <= 16
+}
+
+// Whether the times that a distribution draws are in their range.
+fn times_fit(times: ContinuousDistribution) -> bool
+    ensures { λ r. ⌜ r ≡ timesFit times ⌝ }
+{
+    match times {
+        ContinuousDistribution::Always(v) => {
+            if 0.0 < v {
+                return v <= 1048576.0;
+            }
+            false
+        }
+        ContinuousDistribution::Uniform(min, max) => {
+            if 0.0 <= min {
+                if min < max {
+                    return max <= 1048576.0;
+                }
+                return false;
+            }
+            false
+        }
+    }
+}
+
+// Whether a window is in 1..64.
+pub fn window_fit(window: u32) -> bool
+    ensures { λ r. ⌜ r ≡ windowFit window ⌝ }
+{
+    if window < 1 {
+        return false;
+    }
+    window <= 64
+}
+
+// Whether a policy's windows and gap are in their ranges.
+fn policy_fit(policy: Policy) -> bool
+    ensures { λ r. ⌜ r ≡ policyFit policy ⌝ }
+{
+    match policy {
+        Policy::Held(w) => window_fit(w),
+        Policy::Grown(first, most) => {
+            if !window_fit(first) {
+                return false;
+            }
+            if !window_fit(most) {
+                return false;
+            }
+            first <= most
+        }
+        Policy::Timed(most, gap) => {
+            if !window_fit(most) {
+                return false;
+            }
+            in_range(0.00000095367431640625, 1048576.0, gap)
+        }
+    }
+}
