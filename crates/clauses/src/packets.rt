@@ -114,7 +114,7 @@ fn due_fit(on_line: [Transit; 512], ring: Ring) -> bool
 
 // Whether no packet on the line is due later than a time.
 //
-// For `fitness`: `is_fit` has tested the rings.
+// A helper for `fitness`, and no entry point: `is_fit` has tested the rings.
 pub fn due_soon(on_line: [Transit; 512], ring: Ring, latest: Time) -> bool
     requires { ⌜ (ring .start < 512) × (ring .count ≤ 512) ⌝ }
     ensures { λ r. ⌜ r ≡ soonTest latest «on_line» ring ⌝ }
@@ -136,7 +136,7 @@ pub fn due_soon(on_line: [Transit; 512], ring: Ring, latest: Time) -> bool
 
 // Whether the packets that wait and those on the line are fit, and no due time falls.
 //
-// For `fitness`: `is_fit` has tested the senders' number and the rings.
+// A helper for `fitness`, and no entry point: `is_fit` has tested the senders' number and the rings.
 pub fn packets_fit(
     senders: [LossySender; 16],
     n: u32,
@@ -160,7 +160,7 @@ pub fn packets_fit(
 
 // The due time of the first packet on the line; it is read only where there is one.
 //
-// For `fitness`: `is_fit` has tested the rings.
+// A helper for `fitness`, and no entry point: `is_fit` has tested the rings.
 pub fn first_due(on_line: [Transit; 512], ring: Ring) -> Time
     requires { ⌜ ring .start < 512 ⌝ }
     ensures { λ r. ⌜ r ≡ firstDue «on_line» ring ⌝ }
@@ -172,7 +172,7 @@ pub fn first_due(on_line: [Transit; 512], ring: Ring) -> Time
 
 // How many packets of each sender wait; those of a sender from 16 on are counted nowhere.
 //
-// For `fitness`: `is_fit` has tested the rings.
+// A helper for `fitness`, and no entry point: `is_fit` has tested the rings.
 pub fn waiting_counts(waiting: [Packet; 512], ring: Ring) -> [usize; 16]
     requires { ⌜ (ring .start < 512) × (ring .count ≤ 512) ⌝ }
     ensures { λ r. ⌜ Counts (λ k. waitingOf k waiting ring) r ⌝ }
@@ -197,7 +197,7 @@ pub fn waiting_counts(waiting: [Packet; 512], ring: Ring) -> [usize; 16]
 
 // How many packets of each sender are on the line; those of a sender from 16 on are counted nowhere.
 //
-// For `fitness`: `is_fit` has tested the rings.
+// A helper for `fitness`, and no entry point: `is_fit` has tested the rings.
 pub fn on_line_counts(on_line: [Transit; 512], ring: Ring) -> [usize; 16]
     requires { ⌜ (ring .start < 512) × (ring .count ≤ 512) ⌝ }
     ensures { λ r. ⌜ Counts (λ k. onLineOf k «on_line» ring) r ⌝ }

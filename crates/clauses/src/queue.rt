@@ -167,7 +167,7 @@ fn places_fit(
 
 // Whether the next part and each place of the queue are fit.
 //
-// For `fitness`: `is_fit` has tested the senders' number.
+// A helper for `fitness`, and no entry point: `is_fit` has tested the senders' number.
 pub fn queue_fit(
     n: u32,
     line: Line,

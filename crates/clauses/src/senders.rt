@@ -193,7 +193,7 @@ fn sender_fit(
 // Whether the first n senders, with their togglers and meters, are fit, where element i of the counts
 // is how many of sender i's packets wait and how many are on the line.
 //
-// For `fitness`: `is_fit` has tested the network and counted over rings of 512 places.
+// A helper for `fitness`, and no entry point: `is_fit` has tested the network and counted over rings of 512 places.
 pub fn senders_fit(
     policy: Policy,
     bits: u64,
