@@ -315,7 +315,7 @@ def unfit():
     yield fit("a greatest ack above sent", sender(ack=5), queued(1, 3.0))
 
 
-# ---- 8 and 10 to 14, idle, runs and flows
+# ---- 8 and 10 to 13, idle, runs and flows
 
 def others():
     def after_z(what, answer, *edits):
@@ -354,10 +354,6 @@ def others():
     yield after_z("511 on the line and one starts", MOVED, *travellers(0, 511, 4.0))
     yield after_z("13: 512 on the line and one starts", refused(13), *travellers(0, 512, 4.0))
     yield after_z("512 on the line, one leaves and one starts", MOVED, *travellers(0, 512, 3.0))
-    yield "14: the one place where a tick works out a time. No tick gets there: see docs/DECISIONS.md.", [
-        command("J", 3.0, 1.0), command("J", 3.0, 0.0), command("J", 3.0, -TINY), command("J", 3.0, -1.0),
-        command("J", MAX, MAX), command("J", 3.0, NAN), command("J", 3.0, INF)], [
-        f"time {field(4.0)}", f"time {field(3.0)}", f"time {field(3.0)}", "time -", "time -", "time -", "time -"]
     yield "idle: no senders", [build(dict(GOOD, senders=0)), "T", command("R", 5)], [
         "build 0", IDLE, f"run 0 0 {field(MAX)}"]
     yield "a run that meets a refused tick does not count it", [

@@ -18,7 +18,9 @@ extern "C" {
 /* Puts all that is printed for the description text[0..text_len] into out, from its start, and
    answers how many bytes that is. The answer is 0 where out is too small, and only there: then
    some lines may have been written, and nothing of out is to be used. out beyond the answer is as
-   it was. A text that is malformed or refused is answered by its line, stop=1 to stop=15.
+   it was. A text that is malformed (15) or whose build is refused (1 to 8) is answered by its stop
+   line alone. The stop line of a run has 0, or 8 to 13 where a tick was refused. No other number is
+   given (README.md, "Stops").
 
    The caller sees to it that
    - text points to text_len bytes that can be read, and out to out_len bytes that can be read and

@@ -321,29 +321,27 @@ fn refused_before(before: &Held, part: Part) -> Option<u8> {
     None
 }
 
-/// Stops that show in what the tick did, in the order in which it would meet them: the Rust takes
-/// a 513th packet and any time.
+/// Stops that show in what the tick did: the Rust takes a 513th packet. A new time that is below
+/// the clock or not finite has no number (document 02, K6: there is none), so the harness ends.
 fn refused_after(before: &Held, after: &Held, part: Part) -> Option<u8> {
-    let unfit = |time: f64| !(before.clock <= time && time.is_finite());
-    let first =
-        |stops: [(bool, u8); 2]| stops.into_iter().find(|(holds, _)| *holds).map(|(_, n)| n);
+    let fine = |time: f64| assert!(before.clock <= time && time.is_finite(), "{part:?}: {time}");
     match part {
         Part::Link => {
-            let started = after.link.waiting.len() < before.link.waiting.len();
-            let due = after.link.line.last().map_or(before.clock, |last| last.due);
-            first([
-                (after.link.line.len() > PLACES, 13),
-                (started && (unfit(after.link.earliest) || unfit(due)), 14),
-            ])
+            if after.link.waiting.len() < before.link.waiting.len() {
+                fine(after.link.earliest);
+                after.link.line.last().map(|last| last.due).into_iter().for_each(fine);
+            }
+            (after.link.line.len() > PLACES).then_some(13)
         }
         Part::Sender(i) => {
             let timer = after.senders[i].enabled.as_ref().and_then(|on| on.timer);
-            first([
-                (timer.is_some_and(unfit), 14),
-                (after.link.waiting.len() > PLACES, 12),
-            ])
+            timer.into_iter().for_each(fine);
+            (after.link.waiting.len() > PLACES).then_some(12)
         }
-        Part::Toggler(i) => unfit(after.togglers[i].next_toggle).then_some(14),
+        Part::Toggler(i) => {
+            fine(after.togglers[i].next_toggle);
+            None
+        }
     }
 }
 

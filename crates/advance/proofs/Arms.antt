@@ -27,7 +27,7 @@ use Rattle.toggler.specs.Toggler.{toggleOf}
 use Rattle.sender.specs.declared.lossy.LossySender.{LossySender}
 use Rattle.sender.specs.declared.lossy.SenderState.{SenderState}
 use Rattle.sender.specs.declared.lossy.SenderState.the-variants as State
-use Rattle.sender.specs.declared.lossy.TimerTicked.{TimerTicked}
+use Rattle.sender.specs.declared.lossy.Enabled.{Enabled}
 use Rattle.sender.specs.declared.lossy.Sent.{Sent}
 use Rattle.sender.specs.declared.lossy.Heard.{Heard}
 use Rattle.sender.specs.declared.lossy.Heard.the-variants as Heard
@@ -257,11 +257,11 @@ module _ (s : Simulation) (i : ℕ) where
       by false u e = refl
 
   -- the sender's turn by what it sends
-  by-timer : (t : TimerTicked) → t .number ≡ 0
+  by-timer : (t : Enabled)
       → outcomeWith (sender i) (timerWith s i t)
       ≡ moves (senderNote (s .head .clock) i Sending.Timer Mark.Timer) (picked (sender-state s i (timerTook (senderAt s i) t) (arrivedAt (s .network .limit) (s .network .bits) (s .line) Sending.Timer)))
   unfolding requeue ownTime arrivedAt
-  by-timer t z = rw (eq-eqb _ _ z, set-getD (s .waiting) (placeAfter (s .line .waiting)) noPacket, set-getD (set (s .queue) (1 + 2 * i) (senderSlot true (getD (set (s .senders) i (timerTook (senderAt s i) t .sender)) i noSender) (s .head .clock) (getD (s .queue) (1 + 2 * i) noQueued))) 0 noQueued)
+  by-timer t = rw (set-getD (s .waiting) (placeAfter (s .line .waiting)) noPacket, set-getD (set (s .queue) (1 + 2 * i) (senderSlot true (getD (set (s .senders) i (timerTook (senderAt s i) t .sender)) i noSender) (s .head .clock) (getD (s .queue) (1 + 2 * i) noQueued))) 0 noQueued)
 
   by-send : (t : Sent) → t .number ≡ 0 → (b : Arrival) → b ≡ receiveOf (s .network .limit) (s .line) (amountOf (s .network .bits)) → b .number ≡ 0
       → outcomeWith (sender i) (sendWith s i t)
@@ -276,11 +276,11 @@ module _ (s : Simulation) (i : ℕ) where
   abbrev arriving : SenderActed → Arriving
   arriving a = arrivedAt (s .network .limit) (s .network .bits) (s .line) (a .sending)
 
-  chosen : (t : Bool) (u : TimerTicked) (v : Sent) → cond t (timerTook (senderAt s i) u) (sendTook (senderAt s i) v) .number ≡ 0
+  chosen : (t : Bool) (u : Enabled) (v : Sent) → cond t (timerTook (senderAt s i) u) (sendTook (senderAt s i) v) .number ≡ 0
       → arriving (cond t (timerTook (senderAt s i) u) (sendTook (senderAt s i) v)) .number ≡ 0
       → Turn (cond t (timerTook (senderAt s i) u) (sendTook (senderAt s i) v)) (arriving (cond t (timerTook (senderAt s i) u) (sendTook (senderAt s i) v))) (cond t (timerWith s i u) (sendWith s i v))
   unfolding arrivedAt
-  chosen true u v z y = by-timer u z
+  chosen true u v z y = by-timer u
   chosen false u v z y = by-send v z (receiveOf (s .network .limit) (s .line) (amountOf (s .network .bits))) refl y
 
   took : (w : SenderState) → senderTook (s .network) (s .head .clock) (senderAt s i) i w .number ≡ 0 → arriving (senderTook (s .network) (s .head .clock) (senderAt s i) i w) .number ≡ 0
@@ -299,9 +299,9 @@ module _ (s : Simulation) (i : ℕ) where
       (took (senderAt s i .state) (sym (ap (λ (x : SenderActed). x .number) e) ∙ z) (sym (ap (λ (x : Arriving). x .number) (f ∙ ap arriving e)) ∙ y))
 
   -- stopped before it sends
-  chosen-stops : (t : Bool) (u : TimerTicked) (v : Sent) → eqb (cond t (timerTook (senderAt s i) u) (sendTook (senderAt s i) v) .number) 0 ≡ false
+  chosen-stops : (t : Bool) (u : Enabled) (v : Sent) → eqb (cond t (timerTook (senderAt s i) u) (sendTook (senderAt s i) v) .number) 0 ≡ false
       → outcomeWith (sender i) (cond t (timerWith s i u) (sendWith s i v)) ≡ stops (cond t (timerTook (senderAt s i) u) (sendTook (senderAt s i) v) .number)
-  chosen-stops true u v z = rw (z, z)
+  chosen-stops true u v z = absurd (true≢false z)
   chosen-stops false u v z = rw (z, z)
 
   took-stops : (w : SenderState) → eqb (senderTook (s .network) (s .head .clock) (senderAt s i) i w .number) 0 ≡ false
@@ -315,7 +315,7 @@ module _ (s : Simulation) (i : ℕ) where
   sender-stops a e z = rw e (took-stops (senderAt s i .state) (sym (ap (λ (x : SenderActed). eqb (x .number) 0) e) ∙ z))
 
   -- stopped where the packet arrives
-  chosen-full : (t : Bool) (u : TimerTicked) (v : Sent) → cond t (timerTook (senderAt s i) u) (sendTook (senderAt s i) v) .number ≡ 0
+  chosen-full : (t : Bool) (u : Enabled) (v : Sent) → cond t (timerTook (senderAt s i) u) (sendTook (senderAt s i) v) .number ≡ 0
       → eqb (arriving (cond t (timerTook (senderAt s i) u) (sendTook (senderAt s i) v)) .number) 0 ≡ false
       → outcomeWith (sender i) (cond t (timerWith s i u) (sendWith s i v)) ≡ stops (arriving (cond t (timerTook (senderAt s i) u) (sendTook (senderAt s i) v)) .number)
   unfolding arrivedAt deliver requeue

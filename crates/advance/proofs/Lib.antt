@@ -2,3 +2,4 @@
 pub mod Arms
 pub mod Ticks
 pub mod Loop
+pub mod Types

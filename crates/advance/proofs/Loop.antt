@@ -1,16 +1,18 @@
 -- What each arm of the loop knows and stores: the turn, what is in range, and the state as it is stored. One variable and one equation for each call. Assumes nothing.
 use mathlib.Core.Path.{_≡_, refl, sym, ap, subst, _∙_}
 use mathlib.Core.Bool.{Bool, true, false, cond}
+use mathlib.Core.List.{List}
 use Prim.Native.Nat.{ℕ, _+_, _*_, _<_}
 use native.Mathlib.Omega.{arith}
 use lib.ListN.{length, getD, set}
-use lib.Dec.{eqb, ltb, leb}
+use lib.Seq.{getD-set-same}
+use lib.Dec.{ltb, leb}
 use borrow.Author.Tests.{ltb-true}
 use Rattle.quantities.specs.declared.time.Time.{Time}
 use Rattle.quantities.specs.declared.time_span.TimeSpan.{TimeSpan}
 use Rattle.quantities.specs.declared.information.Information.{Information}
 use Rattle.quantities.specs.declared.information_rate.InformationRate.{InformationRate}
-use Rattle.quantities.specs.Units.{spanOf, rateOf, amountOf, amountOverRate}
+use Rattle.quantities.specs.Units.{spanOf, rateOf, amountOf}
 use Rattle.meters.specs.declared.meter.Metered.{Metered}
 use Rattle.meters.specs.Meter.{switchedOf}
 use Rattle.link.specs.declared.packet.Packet.{Packet}
@@ -24,7 +26,6 @@ use Rattle.toggler.specs.declared.toggler.Toggled.{Toggled}
 use Rattle.toggler.specs.declared.tick_queue.Queued.{Queued}
 use Rattle.toggler.specs.declared.tick_queue.Picked.{Picked}
 use Rattle.link.specs.Ring.{places}
-use Rattle.quantities.specs.NewTime.{newTime}
 use Rattle.link.specs.Link.{admits, admitted, receiveOf, isFree, tryDeliver, tryTransmit}
 use Rattle.toggler.specs.Toggler.{toggleOf}
 use Rattle.toggler.specs.Queue.{noQueued, pickOf}
@@ -34,6 +35,7 @@ use Rattle.remy.specs.declared.simulation.TickRecord.{TickRecord}
 use Rattle.remy.specs.State.{Role, link, sender, toggler, noPacket, noTransit, noSender, noToggler, senderAt, togglerAt, meterAt, frontOf, firstOf}
 use Rattle.remy.specs.Queue.{headOf}
 use Rattle.remy.specs.Fit.{fit}
+use Rattle.remy.specs.HeldTimes.{Full}
 use Rattle.remy.specs.Tick.{moves, outcomeOf, unmoved, ticked, tickOf}
 use Rattle.remy.proofs.Steps.{cond-elim}
 use Rattle.queueing.specs.declared.Now.{Now}
@@ -97,12 +99,7 @@ module _ (l : Line) (clock : Time) (first : Packet) (delay : TimeSpan) (rate : I
   unfolding tryTransmit
   keeps-start =
       let P : Transmitted → Type 0 = λ t. t .line .«on_line» .start ≡ l .«on_line» .start in
-      let free = newTime clock (amountOverRate bits rate) in
-      let due = newTime clock delay in
-      cond-elim P (isFree l clock) _ _
-      (λ a. cond-elim P (leb places (l .«on_line» .count)) _ _ (λ b. refl)
-      (λ b. cond-elim P (eqb (free .number) 0) _ _ (λ c. cond-elim P (eqb (due .number) 0) _ _ (λ d. refl) (λ d. refl)) (λ c. refl)))
-      (λ a. refl)
+      cond-elim P (isFree l clock) _ _ (λ a. cond-elim P (leb places (l .«on_line» .count)) _ _ (λ b. refl) (λ b. refl)) (λ a. refl)
 
 module _ (s : Simulation) (p : InPlace s) (c : LinkActed) (e : c ≡ linkActed (s .network) (s .line) (s .head .clock) (frontOf s) (firstOf s)) where
   pub link-at : c .at < 512
@@ -138,12 +135,16 @@ module _ (limit : Limit) (bits : ℕ) (l : Line) (x : Sending) (b : Arriving) (e
 
 -- ---- what is stored
 
-module _ (s : Simulation) (k : ℕ) (ek : k ≡ ownerOf (frontOf s .packet)) (full : length (s .«on_line») ≡ 512) (t : Turn s link 0)
+-- a part's place is worked out from what its turn gave, which is what is then stored
+stored-slot : {A : Type 0} (slot : A → Queued) (d : A) (l : List A) (n i : ℕ) → length l ≡ n → i < n → (x : A) (q : Queued) → q ≡ slot x → q ≡ slot (getD (set l i x) i d)
+stored-slot slot d l n i full inside x q e = e ∙ ap slot (sym (getD-set-same l i x d (omega (arith, inside, full))))
+
+module _ (s : Simulation) (full : Full s) (k : ℕ) (ek : k ≡ ownerOf (frontOf s .packet)) (t : Turn s link 0)
     (c : LinkActed) (ec : c ≡ linkActed (s .network) (s .line) (s .head .clock) (frontOf s) (firstOf s)) (z : c .number ≡ 0)
     (h : Hearing) (eh : h ≡ heardBy (s .network) (s .head .clock) (c .left) (senderAt s k) (meterAt s k)) where
   pub link-stored : (new : Transit) → new ≡ onLineAt (c .begun) (getD (s .«on_line») (c .at) noTransit)
       → (q0 : Queued) → q0 ≡ linkSlot true (c .line) (s .head .clock) (getD (set (s .«on_line») (c .at) new) (c .line .«on_line» .start) noTransit) (getD (s .queue) 0 noQueued)
-      → (q1 : Queued) → q1 ≡ senderSlot (h .heard) (getD (set (s .senders) k (h .sender)) k noSender) (s .head .clock) (getD (set (s .queue) 0 q0) (1 + 2 * k) noQueued)
+      → (q1 : Queued) → q1 ≡ senderSlot (h .heard) (h .sender) (s .head .clock) (getD (set (s .queue) 0 q0) (1 + 2 * k) noQueued)
       → (best : Picked) → best ≡ pickOf (set (set (s .queue) 0 q0) (1 + 2 * k) q1)
       → (x : Queued) → x ≡ placeAfterPick (best .time) (getD (set (set (s .queue) 0 q0) (1 + 2 * k) q1) (best .part) noQueued)
       → (head : Head) → head ≡ headOf best (best .time)
@@ -161,14 +162,15 @@ module _ (s : Simulation) (k : ℕ) (ek : k ≡ ownerOf (frontOf s .packet)) (fu
         queue = set (set (set (s .queue) 0 q0) (1 + 2 * k) q1) (best .part) x;
       }))
   link-stored new en q0 e0 q1 e1 best eb x ex head ed note eo =
-      let same : set (set (s .queue) 0 q0) (1 + 2 * k) q1 ≡ link-state s k (c .at) (c .line) (c .begun) h .queue = rw (e1, e0, en) in
-      rw (eo, ed, ex, e1, e0, en)
-      (t .tick ∙ ap (ticked s) (link-moves s k c ec (own-packet s (t .fits) full k ek c ec) z h eh best (eb ∙ ap pickOf same)))
+      let stored = stored-slot (λ y. senderSlot (h .heard) y (s .head .clock) (getD (set (s .queue) 0 q0) (1 + 2 * k) noQueued)) noSender (s .senders) 16 k (full .senders) (owner-small (frontOf s .packet) k ek) (h .sender) q1 e1 in
+      let same : set (set (s .queue) 0 q0) (1 + 2 * k) q1 ≡ link-state s k (c .at) (c .line) (c .begun) h .queue = rw (stored, e0, en) in
+      rw (eo, ed, ex, stored, e0, en)
+      (t .tick ∙ ap (ticked s) (link-moves s k c ec (own-packet s (t .fits) (full .moving) k ek c ec) z h eh best (eb ∙ ap pickOf same)))
 
-module _ (s : Simulation) (i : ℕ) (t : Turn s (sender i) i) (a : SenderActed) (ea : a ≡ senderActed (s .network) (s .head .clock) (senderAt s i) i) (y : a .number ≡ 0)
+module _ (s : Simulation) (full : Full s) (i : ℕ) (t : Turn s (sender i) i) (a : SenderActed) (ea : a ≡ senderActed (s .network) (s .head .clock) (senderAt s i) i) (y : a .number ≡ 0)
     (b : Arriving) (eb : b ≡ arrivedAt (s .network .limit) (s .network .bits) (s .line) (a .sending)) (z : b .number ≡ 0) where
   pub sender-stored : (new : Packet) → new ≡ waitingAt (b .admitted) (a .sending) (getD (s .waiting) (b .at) noPacket)
-      → (q1 : Queued) → q1 ≡ senderSlot true (getD (set (s .senders) i (a .sender)) i noSender) (s .head .clock) (getD (s .queue) (1 + 2 * i) noQueued)
+      → (q1 : Queued) → q1 ≡ senderSlot true (a .sender) (s .head .clock) (getD (s .queue) (1 + 2 * i) noQueued)
       → (q0 : Queued) → q0 ≡ linkSlot (b .arrives) (b .line) (s .head .clock) (getD (s .«on_line») (b .line .«on_line» .start) noTransit) (getD (set (s .queue) (1 + 2 * i) q1) 0 noQueued)
       → (best : Picked) → best ≡ pickOf (set (set (s .queue) (1 + 2 * i) q1) 0 q0)
       → (x : Queued) → x ≡ placeAfterPick (best .time) (getD (set (set (s .queue) (1 + 2 * i) q1) 0 q0) (best .part) noQueued)
@@ -187,14 +189,15 @@ module _ (s : Simulation) (i : ℕ) (t : Turn s (sender i) i) (a : SenderActed) 
         queue = set (set (set (s .queue) (1 + 2 * i) q1) 0 q0) (best .part) x;
       }))
   sender-stored new en q1 e1 q0 e0 best ep x ex head ed note eo =
-      let same : set (set (s .queue) (1 + 2 * i) q1) 0 q0 ≡ sender-state s i a b .queue = rw (e0, e1) in
-      rw (eo, ed, ex, e0, e1, en) (t .tick ∙ ap (ticked s) (sender-moves s i a ea y b eb z best (ep ∙ ap pickOf same)))
+      let stored = stored-slot (λ y. senderSlot true y (s .head .clock) (getD (s .queue) (1 + 2 * i) noQueued)) noSender (s .senders) 16 i (full .senders) (t .below) (a .sender) q1 e1 in
+      let same : set (set (s .queue) (1 + 2 * i) q1) 0 q0 ≡ sender-state s i a b .queue = rw (e0, stored) in
+      rw (eo, ed, ex, e0, stored, en) (t .tick ∙ ap (ticked s) (sender-moves s i a ea y b eb z best (ep ∙ ap pickOf same)))
 
-module _ (s : Simulation) (i : ℕ) (t : Turn s (toggler i) i) (g : Toggled) (eg : g ≡ toggleOf (togglerAt s i) (s .head .clock) (s .network .on) (s .network .off)) (y : g .number ≡ 0)
+module _ (s : Simulation) (full : Full s) (i : ℕ) (t : Turn s (toggler i) i) (g : Toggled) (eg : g ≡ toggleOf (togglerAt s i) (s .head .clock) (s .network .on) (s .network .off)) (y : g .number ≡ 0)
     (o : LossySender) (eo : o ≡ switchedTo (s .network .policy) (g .toggler .enabled) (senderAt s i) (s .head .clock))
     (m : Metered) (em : m ≡ switchedOf (meterAt s i) (g .toggler .enabled) (s .head .clock)) where
-  pub toggler-stored : (q2 : Queued) → q2 ≡ togglerSlot (getD (set (s .togglers) i (g .toggler)) i noToggler)
-      → (q1 : Queued) → q1 ≡ senderSlot true (getD (set (s .senders) i o) i noSender) (s .head .clock) (getD (set (s .queue) (2 + 2 * i) q2) (1 + 2 * i) noQueued)
+  pub toggler-stored : (q2 : Queued) → q2 ≡ togglerSlot (g .toggler)
+      → (q1 : Queued) → q1 ≡ senderSlot true o (s .head .clock) (getD (set (s .queue) (2 + 2 * i) q2) (1 + 2 * i) noQueued)
       → (best : Picked) → best ≡ pickOf (set (set (s .queue) (2 + 2 * i) q2) (1 + 2 * i) q1)
       → (x : Queued) → x ≡ placeAfterPick (best .time) (getD (set (set (s .queue) (2 + 2 * i) q2) (1 + 2 * i) q1) (best .part) noQueued)
       → (head : Head) → head ≡ headOf best (best .time)
@@ -212,5 +215,7 @@ module _ (s : Simulation) (i : ℕ) (t : Turn s (toggler i) i) (g : Toggled) (eg
         queue = set (set (set (s .queue) (2 + 2 * i) q2) (1 + 2 * i) q1) (best .part) x;
       }))
   toggler-stored q2 e2 q1 e1 best ep x ex head ed note en =
-      let same : set (set (s .queue) (2 + 2 * i) q2) (1 + 2 * i) q1 ≡ toggler-state s i (g .toggler) o (m .meter) .queue = rw (e1, e2) in
-      rw (en, ed, ex, e1, e2) (t .tick ∙ ap (ticked s) (toggler-moves s i g eg y o eo m em best (ep ∙ ap pickOf same)))
+      let flips = stored-slot togglerSlot noToggler (s .togglers) 16 i (full .togglers) (t .below) (g .toggler) q2 e2 in
+      let sends = stored-slot (λ y. senderSlot true y (s .head .clock) (getD (set (s .queue) (2 + 2 * i) q2) (1 + 2 * i) noQueued)) noSender (s .senders) 16 i (full .senders) (t .below) o q1 e1 in
+      let same : set (set (s .queue) (2 + 2 * i) q2) (1 + 2 * i) q1 ≡ toggler-state s i (g .toggler) o (m .meter) .queue = rw (sends, flips) in
+      rw (en, ed, ex, sends, flips) (t .tick ∙ ap (ticked s) (toggler-moves s i g eg y o eo m em best (ep ∙ ap pickOf same)))

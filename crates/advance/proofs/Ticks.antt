@@ -177,11 +177,8 @@ own-packet s f full k e c g p h =
 
 -- ---- lengths
 
-pub as-long : {A : Type 0} (l : List A) (n : ℕ) → length l ≡ n → (i : ℕ) (x : A) → length (set l i x) ≡ n
+as-long : {A : Type 0} (l : List A) (n : ℕ) → length l ≡ n → (i : ℕ) (x : A) → length (set l i x) ≡ n
 as-long l n full i x = length-set l i x ∙ full
-
-pub thrice : (queue : List Queued) → length queue ≡ 33 → (i : ℕ) (x : Queued) (j : ℕ) (y : Queued) (k : ℕ) (z : Queued) → length (set (set (set queue i x) j y) k z) ≡ 33
-thrice queue full i x j y k z = as-long (set (set queue i x) j y) 33 (as-long (set queue i x) 33 (as-long queue 33 full i x) j y) k z
 
 -- the picked part is a place of the queue, also where two places were stored anew
 pub picked-small : (queue : List Queued) → length queue ≡ 33 → (i : ℕ) (x : Queued) (j : ℕ) (y : Queued) (q : Picked) → q ≡ pickOf (set (set queue i x) j y) → q .part < 33

@@ -77,15 +77,9 @@ pub fn advance(simulation: Simulation, n: u32) -> Advanced
                 let old_link = st.queue[0];
                 let link_slot = queueing::link_slot(true, after, clock, front_after, old_link);
                 st.queue[0] = link_slot;
-                let sender_after = st.senders[receiver];
                 let place = 1 + 2 * receiver;
                 let old_sender = st.queue[place];
-                let sender_slot = queueing::sender_slot(
-                    hearing.heard,
-                    sender_after,
-                    clock,
-                    old_sender,
-                );
+                let sender_slot = queueing::sender_slot(hearing.heard, heard, clock, old_sender);
                 st.queue[place] = sender_slot;
                 let queue = st.queue;
                 let best = toggler::tick_queue::pick(queue);
@@ -131,10 +125,9 @@ pub fn advance(simulation: Simulation, n: u32) -> Advanced
                 st.line = after;
                 st.waiting[at] = new;
                 st.senders[i] = sent;
-                let sender_after = st.senders[i];
                 let place = 1 + 2 * i;
                 let old_sender = st.queue[place];
-                let sender_slot = queueing::sender_slot(true, sender_after, clock, old_sender);
+                let sender_slot = queueing::sender_slot(true, sent, clock, old_sender);
                 st.queue[place] = sender_slot;
                 let front_after_at = after.on_line.start;
                 let front_after = st.on_line[front_after_at];
@@ -183,14 +176,12 @@ pub fn advance(simulation: Simulation, n: u32) -> Advanced
                 st.togglers[i] = toggled;
                 st.senders[i] = switched;
                 st.meters[i] = metered;
-                let toggler_after = st.togglers[i];
                 let toggler_place = 2 + 2 * i;
-                let toggler_slot = queueing::toggler_slot(toggler_after);
+                let toggler_slot = queueing::toggler_slot(toggled);
                 st.queue[toggler_place] = toggler_slot;
-                let sender_after = st.senders[i];
                 let place = 1 + 2 * i;
                 let old_sender = st.queue[place];
-                let sender_slot = queueing::sender_slot(true, sender_after, clock, old_sender);
+                let sender_slot = queueing::sender_slot(true, switched, clock, old_sender);
                 st.queue[place] = sender_slot;
                 let queue = st.queue;
                 let best = toggler::tick_queue::pick(queue);

@@ -16,7 +16,6 @@
 //                            until one does not move: how many moved, number, clock
 //     A                      the held state
 //     F i                    the flow of sender i
-//     J clock span           the time that is a span after the clock
 //
 // A number is 16 hexadecimal digits, a double by its bits, an absent value 16 times '-'. A network is
 // 16 fields: delay, rate, loss, limit, bits, senders; on and off, each a kind (0 always, 1 uniform)
@@ -31,9 +30,7 @@ mod sink;
 mod whole;
 
 use print::moment;
-use quantities::NewTime;
 use quantities::Time;
-use quantities::TimeSpan;
 use read::narrow;
 use read::network_at;
 use remy::Built;
@@ -95,7 +92,7 @@ fn changed(letter: u8, text: &[u8], at: usize, st: Simulation) -> Simulation {
         b'T' => ticked(st),
         b'R' => ran(text, at, st),
         b'U' => stepped(text, at, st),
-        b'A' | b'F' | b'H' | b'D' | b'J' => {
+        b'A' | b'F' | b'H' | b'D' => {
             told(letter, text, at, st);
             st
         }
@@ -192,16 +189,7 @@ fn told(letter: u8, text: &[u8], at: usize, st: Simulation) {
         b'F' => {
             print::flow(printed(), st, narrow(text, at, 0));
         }
-        b'J' => later(text, at),
         _ => {}
-    }
-}
-
-fn later(text: &[u8], at: usize) {
-    let span = TimeSpan(read::double(text, at, 1));
-    match quantities::new_time::new_time(read::moment(text, at, 0), span) {
-        NewTime::At(t) => done(moment(put(printed(), b"time "), t)),
-        NewTime::Refused => done(put(printed(), b"time -")),
     }
 }
 

@@ -9,7 +9,7 @@ use Rattle.quantities.specs.declared.time.OptionTime.the-variants.{None, Some}
 use Rattle.quantities.specs.declared.time_span.TimeSpan.{TimeSpan}
 use Rattle.quantities.specs.declared.information.Information.{Information}
 use Rattle.quantities.specs.declared.information_rate.InformationRate.{InformationRate}
-use Rattle.quantities.specs.Units.{amountOf, amountOverRate, latestOf, earliestOptOf}
+use Rattle.quantities.specs.Units.{amountOf, amountOverRate, spanAfter, latestOf, earliestOptOf}
 use Rattle.rand.specs.Draws.{unitOf}
 use Rattle.link.specs.declared.packet.Packet.{Packet}
 use Rattle.link.specs.declared.packet.Transit.{Transit}
@@ -22,7 +22,6 @@ use Rattle.link.specs.declared.link.Delivered.{Delivered}
 use Rattle.link.specs.declared.link.Begun.the-variants as Begun
 use Rattle.link.specs.declared.link.Transmitted.{Transmitted}
 use Rattle.link.specs.Ring.{places, pushed, popped}
-use Rattle.quantities.specs.NewTime.{TimeAnswer, newTime}
 
 -- ---- arrival
 
@@ -108,14 +107,17 @@ startedLine l bits free =
 abbrev pub notStarted : Line → ℕ → Transmitted
 notStarted l n = record { number = n; begun = Begun.Nobody; line = l }
 
--- earliest start = clock + bits/rate, due = clock + delay
-abbrev pub startWith : Line → Packet → Information → TimeAnswer → TimeAnswer → Transmitted
-startWith l first bits free due =
-    cond (eqb (free .number) 0)
-    (cond (eqb (due .number) 0)
-    (record { number = 0; begun = Begun.Starts (record { packet = first; due = due .time }); line = startedLine l bits (free .time) })
-    (notStarted l (due .number)))
-    (notStarted l (free .number))
+-- earliest start = clock + bits/rate
+abbrev pub nextStart : Time → Information → InformationRate → Time
+nextStart clock bits rate = spanAfter clock (amountOverRate bits rate)
+
+-- due = clock + delay
+abbrev pub dueTime : Time → TimeSpan → Time
+dueTime clock delay = spanAfter clock delay
+
+abbrev pub startsAt : Line → Packet → Information → Time → Time → Transmitted
+startsAt l first bits free due =
+    record { number = 0; begun = Begun.Starts (record { packet = first; due = due }); line = startedLine l bits free }
 
 -- clock ≥ earliest start and one waits
 unfoldable pub isFree : Line → Time → Bool
@@ -125,5 +127,5 @@ isFree l clock = le (l .«earliest_transmit» .0 .0) (clock .0 .0) && leb 1 (l .
 unfoldable pub tryTransmit : Line → Time → Packet → TimeSpan → InformationRate → Information → Transmitted
 tryTransmit l clock first delay rate bits =
     cond (isFree l clock)
-    (cond (leb places (l .«on_line» .count)) (notStarted l 13) (startWith l first bits (newTime clock (amountOverRate bits rate)) (newTime clock delay)))
+    (cond (leb places (l .«on_line» .count)) (notStarted l 13) (startsAt l first bits (nextStart clock bits rate) (dueTime clock delay)))
     (notStarted l 0)

@@ -6,11 +6,9 @@ use crate::packet::Transit;
 use crate::ring::Ring;
 use quantities::Information;
 use quantities::InformationRate;
-use quantities::NewTime;
 use quantities::OptionTime;
 use quantities::Time;
 use quantities::TimeSpan;
-use quantities::new_time::new_time;
 use quantities::time::earliest_opt;
 use quantities::time::latest;
 use rand::Rng;
@@ -56,7 +54,7 @@ pub enum Begun {
     Starts(Transit),
 }
 
-// What a start does: the number (0, 13 or 14), the packet that starts, and the line after it.
+// What a start does: the number (0 or 13), the packet that starts, and the line after it.
 pub struct Transmitted {
     pub number: u32,
     pub begun: Begun,
@@ -234,22 +232,8 @@ pub fn try_transmit(
             line,
         };
     }
-    let free = new_time(clock, bits.div_rate(packet_rate));
-    let NewTime::At(earliest_transmit) = free else {
-        return Transmitted {
-            number: 14,
-            begun: Begun::Nobody,
-            line,
-        };
-    };
-    let arrives = new_time(clock, delay);
-    let NewTime::At(due) = arrives else {
-        return Transmitted {
-            number: 14,
-            begun: Begun::Nobody,
-            line,
-        };
-    };
+    let earliest_transmit = clock.add(bits.div_rate(packet_rate));
+    let due = clock.add(delay);
     let buffer_contains = less(line.buffer_contains, bits);
     let rng = line.rng;
     let waiting = waiting.pop();

@@ -9,3 +9,4 @@ pub mod Follows
 pub mod Once
 pub mod Refuted
 pub mod Rare
+pub mod Clock

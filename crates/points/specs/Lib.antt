@@ -7,3 +7,4 @@ pub mod Unfit
 pub mod Counted
 pub mod Refuted
 pub mod Rare
+pub mod Clock

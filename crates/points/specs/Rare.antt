@@ -14,7 +14,6 @@ use Rattle.sender.specs.declared.lossy.Policy.the-variants.{Held, Grown, Timed}
 use Rattle.sender.specs.declared.lossy.Enabled.{Enabled}
 use Rattle.sender.specs.declared.lossy.SenderState.the-variants as State
 use Rattle.sender.specs.declared.lossy.LossySender.{LossySender}
-use Rattle.sender.specs.declared.lossy.TimerTicked.{TimerTicked}
 use Rattle.sender.specs.declared.lossy.Returned.{Returned}
 use Rattle.sender.specs.declared.lossy.Heard.the-variants.{Counted}
 use Rattle.sender.specs.Sender.{tickTimer, tickSend, returnedOf}
@@ -43,11 +42,11 @@ abbrev pub timed : ℕ → Policy
 timed most = Timed most (double 0x3ff0000000000000)
 
 -- a timer at 2 of timed 8, at this window; and the answer with that one
-abbrev pub fired : ℕ → TimerTicked
+abbrev pub fired : ℕ → Enabled
 fired window = tickTimer (timed 8) (onWith 7 window (Some atTwo)) atTwo
 
-abbrev pub halved : ℕ → TimerTicked
-halved window = record { number = 0; enabled = onWith 7 window (Some atThree) }
+abbrev pub halved : ℕ → Enabled
+halved window = onWith 7 window (Some atThree)
 
 -- a packet sent at 1 comes back at a greatest ack of 7 and a window of 5; and the answer with those
 abbrev pub comesBack : Policy → ℕ → Returned

@@ -11,11 +11,15 @@ use lib.IntN.{pos, negsuc}
 use lib.Dec.{T, lit≤, lit<}
 use lib.Pow.{pow-add, pow-mono, shl-lt}
 use lib.Ieee.{Float, fin, Format, binary64, round, add, sub, mul, div, lt, le, eq, ofInt, fits}
-use lib.Ieee.Fits.{and-l, and-r}
+use lib.Ieee.Fits.{and-i, and-l, and-r}
 use lib.Ieee.Back.{round-whole}
 use lib.Ieee.Scale.{finite}
 use lib.Ieee.Positive.{num, den, den-pos}
-use Rattle.quantities.specs.Doubles.{zeroF, power, inRange}
+use Rattle.quantities.specs.declared.time.Time.{Time}
+use Rattle.quantities.specs.declared.time_span.TimeSpan.{TimeSpan}
+use Rattle.quantities.specs.Doubles.{zeroF, power, least, largest, inRange}
+use Rattle.quantities.specs.Units.{spanAfter}
+use Rattle.quantities.specs.NewTime.{FineTime, Double}
 use Rattle.quantities.proofs.Order
 use Rattle.quantities.proofs.Values.{Is, Held, Rounds, own, le-is, value-is, zero-is, finite-between, finite-known, held-rounds, fits-rounds, rounds-exact, rounds-mono, rounds-eq, rounds-above, rounds-below, rounds-from-zero, add-rounds, sub-rounds, mul-rounds, div-rounds}
 
@@ -94,17 +98,23 @@ add-within f x x' y y' hi v w s t l u =
     ) in
     (within-finite (add f x y) hi r u, r)
 
--- ---- due times: a clock c up to 2 ^ 40, and a span d
+-- ---- new times: a clock up to 2 ^ 40, and a span up to 2 ^ 40 after it
 
-pub due-far : (c d : Float) → T (fits binary64 c) → within c (power 40) → within d (power 40)
-    → T (finite (add binary64 c d)) × T (le c (add binary64 c d)) × T (le (add binary64 c d) (power 41))
-due-far c d h v w =
-    let r = add-within binary64 c (power 40) d (power 40) (power 41) v w tt tt (unfold add le in tt) tt in
-    (r .0, add-above binary64 c d h (within-finite c (power 40) v tt) (v .0) (within-finite d (power 40) w tt) (w .0), r .1 .1)
+module _ (clock : Time) (span : TimeSpan) (v : within (clock .0 .0) (power 40)) (w : within (span .0) (power 40)) where
+  after-within : within (spanAfter clock span .0 .0) (power 41)
+  after-within = add-within binary64 (clock .0 .0) (power 40) (span .0) (power 40) (power 41) v w tt tt (unfold add le in tt) tt .1
 
-pub due-fine : (c d : Float) → T (fits binary64 c) → within c (power 40) → within d (power 24)
-    → T (finite (add binary64 c d)) × T (le c (add binary64 c d)) × T (le (add binary64 c d) (power 41))
-due-fine c d h v w = due-far c d h v (within-wider d (power 24) (power 40) w (unfold le in tt))
+  pub sum-held : T (le (spanAfter clock span .0 .0) (power 41))
+  sum-held = after-within .1
+
+  pub sum-fine : Double clock → FineTime clock (spanAfter clock span)
+  sum-fine double =
+      let c = clock .0 .0 in
+      let t = spanAfter clock span .0 .0 in
+      record {
+        finite = and-i (le least t) (le t largest) (Order.le-trans least zeroF t (unfold le in tt) (after-within .0)) (Order.le-trans t (power 41) largest sum-held (unfold le in tt));
+        ahead = add-above binary64 c (span .0) double (within-finite c (power 40) v tt) (v .0) (within-finite (span .0) (power 40) w tt) (w .0);
+      }
 
 -- due times do not fall
 pub due-order : (f : Format) (c c' d : Float) → within c c' → T (finite c') → T (finite d) → T (le zeroF d) → T (le (add f c d) (add f c' d))

@@ -1,7 +1,7 @@
 -- Demand 3: the account holds after every list of calls from a fresh simulation. Assumes nothing.
 use mathlib.Core.Path.{_≡_, refl, sym, ap, subst, _∙_}
 use mathlib.Core.Logic.{_⊎_, inl, inr, ⊎-elim}
-use mathlib.Core.Bool.{Bool, true, false, _||_, cond}
+use mathlib.Core.Bool.{Bool, true, false, _||_, cond, true≢false}
 use mathlib.Core.List.{List, [], _∷_, _++_, map, map-map, append-assoc, append-nil}
 use Prim.Native.Nat.{ℕ, _+_}
 use native.Mathlib.Omega.{arith}
@@ -19,7 +19,8 @@ use Rattle.remy.specs.declared.simulation.Ticked.{Ticked}
 use Rattle.remy.specs.State.{roleOf, waitingItems, onLineItems, onLinePackets}
 use Rattle.remy.specs.Fit.{fit}
 use Rattle.remy.specs.Tick.{Outcome, moves, stops, outcomeOf, unmoved, ticked, tickNext, tickOf}
-use Rattle.remy.specs.History.{Call, tick, called, after, noted, history, PacketId, idOf, ids, entries, letterOf, isS, isF, isL, isC, isO, isI, sends, admissions, starts, leaves, droppedFull, lost, counted, old, ignored}
+use Rattle.remy.specs.HeldTimes.{Has}
+use Rattle.remy.specs.History.{Call, tick, called, after, noted, history, Fresh, PacketId, idOf, ids, entries, letterOf, isS, isF, isL, isC, isO, isI, sends, admissions, starts, leaves, droppedFull, lost, counted, old, ignored}
 use Rattle.remy.specs.Account.{total, ofSender, isPacket, everywhere, Account, Demand3}
 use Rattle.remy.proofs.Lists.{map-append, entries-append, starts-append, total-append, entries-either}
 use Rattle.remy.proofs.Lines.{line-account}
@@ -28,22 +29,29 @@ use Rattle.remy.proofs.Kept.{Kept, kept-lists}
 use Rattle.remy.proofs.Steps.{cond-elim}
 use Rattle.remy.proofs.Outcomes.{OnMoves}
 use Rattle.remy.proofs.Turns.{turn-good}
+use Rattle.remy.proofs.Plain.{plain}
+use Rattle.remy.proofs.PlainTimes.{tick-plain}
 use Rattle.remy.proofs.Start.{fresh-kept}
 
 -- ---- what is kept, with a history
 
-abbrev pub KeptAt : RemyNetwork → List TickRecord → Simulation → Type 0
-KeptAt n h s = Kept n (admissions h) (starts h) (leaves h) (sends h) (counted h) s
+abbrev pub ListsAt : RemyNetwork → List TickRecord → Simulation → Type 0
+ListsAt n h s = Kept n (admissions h) (starts h) (leaves h) (sends h) (counted h) s
+
+-- and times that are plain
+pub record KeptAt (n : RemyNetwork) (h : List TickRecord) (s : Simulation) : Type 0 where
+  pub lists : ListsAt n h s
+  pub plain : Has plain s
 
 module _ (n : RemyNetwork) where
   -- a tick, with the record that it adds to the history
   abbrev KeptBy : List TickRecord → Ticked → Type 0
-  KeptBy h t = KeptAt n (h ++ noted t []) (t .simulation)
+  KeptBy h t = ListsAt n (h ++ noted t []) (t .simulation)
 
-  unmoved-keeps : (h : List TickRecord) (s : Simulation) (number : ℕ) → KeptAt n h s → KeptBy h (unmoved s number)
-  unmoved-keeps h s number k = subst (λ (l : List TickRecord). KeptAt n l s) (sym (append-nil h)) k
+  unmoved-keeps : (h : List TickRecord) (s : Simulation) (number : ℕ) → ListsAt n h s → KeptBy h (unmoved s number)
+  unmoved-keeps h s number k = subst (λ (l : List TickRecord). ListsAt n l s) (sym (append-nil h)) k
 
-  outcome-keeps : (h : List TickRecord) (s : Simulation) (o : Outcome) → KeptAt n h s
+  outcome-keeps : (h : List TickRecord) (s : Simulation) (o : Outcome) → ListsAt n h s
       → OnMoves (λ r m. Kept n (admissions h ++ admissions (r ∷ [])) (starts h ++ starts (r ∷ [])) (leaves h ++ leaves (r ∷ [])) (sends h ++ sends (r ∷ [])) (counted h ++ counted (r ∷ [])) m) o
       → KeptBy h (ticked s o)
   outcome-keeps h s (stops number) k g = unmoved-keeps h s number k
@@ -66,17 +74,30 @@ tick-elim F s rests goes = cond-elim F (fit s) (tickNext s (s .head .next)) (unm
         (λ late. rests 10)
         (λ early. goes (fit-state s e) early j)
 
-tick-keeps : (h : List TickRecord) (s : Simulation) → KeptAt (s .network) h s → KeptBy (s .network) h (tickOf s)
+-- a tick that does not move returns the state that it was given
+pub unmoved-same : (s : Simulation) → tickOf s .moved ≡ false → tickOf s .simulation ≡ s
+unmoved-same s =
+    tick-elim (λ (t : Ticked). t .moved ≡ false → t .simulation ≡ s) s (λ number e. refl) (λ f early j. of-outcome (outcomeOf s (roleOf (s .network .senders) j)))
+  where
+    of-outcome : (o : Outcome) → ticked s o .moved ≡ false → ticked s o .simulation ≡ s
+    of-outcome (stops k) e = refl
+    of-outcome (moves x m) e = absurd (true≢false e)
+
+tick-keeps : (h : List TickRecord) (s : Simulation) → KeptAt (s .network) h s → KeptAt (s .network) (h ++ noted (tickOf s) []) (tickOf s .simulation)
 tick-keeps h s k =
-    tick-elim (KeptBy (s .network) h) s (λ number. unmoved-keeps (s .network) h s number k)
-    (λ f early j. outcome-keeps (s .network) h s (outcomeOf s (roleOf (s .network .senders) j)) k (turn-good f early k j))
+    record {
+      lists =
+          tick-elim (KeptBy (s .network) h) s (λ number. unmoved-keeps (s .network) h s number (k .lists))
+          (λ f early j. outcome-keeps (s .network) h s (outcomeOf s (roleOf (s .network .senders) j)) (k .lists) (turn-good f early (k .plain .clock) (k .plain .held) (k .lists) j));
+      plain = tick-plain s (k .plain);
+    }
 
 -- ---- every list of calls
 
 pub call-keeps : (n : RemyNetwork) (c : Call) (h : List TickRecord) (s : Simulation) → KeptAt n h s → KeptAt n (h ++ noted (called c s) []) (called c s .simulation)
 call-keeps n tick h s k =
-    let own : KeptAt (s .network) h s = subst (λ (m : RemyNetwork). KeptAt m h s) (sym (k .network)) k in
-    subst (λ (m : RemyNetwork). KeptAt m (h ++ noted (tickOf s) []) (tickOf s .simulation)) (k .network) (tick-keeps h s own)
+    let own : KeptAt (s .network) h s = subst (λ (m : RemyNetwork). KeptAt m h s) (sym (k .lists .network)) k in
+    subst (λ (m : RemyNetwork). KeptAt m (h ++ noted (tickOf s) []) (tickOf s .simulation)) (k .lists .network) (tick-keeps h s own)
 
 noted-append : (t : Ticked) (h : List TickRecord) → noted t h ≡ noted t [] ++ h
 noted-append t h = by (t .moved)
@@ -92,6 +113,9 @@ calls-keep n (c ∷ cs) h s k =
     subst (λ (l : List TickRecord). KeptAt n l (after cs (t .simulation)))
     (append-assoc h (noted t []) (history cs (t .simulation)) ∙ ap (λ (l : List TickRecord). h ++ l) (sym (noted-append t (history cs (t .simulation)))))
     (calls-keep n cs (h ++ noted t []) (t .simulation) (call-keeps n c h s k))
+
+pub fresh-keeps : (n : RemyNetwork) (s : Simulation) → Fresh n s → KeptAt n [] s
+fresh-keeps n s fresh = let b = fresh-kept n s fresh in record { lists = b .kept; plain = b .plain }
 
 -- ---- the account
 
@@ -148,7 +172,7 @@ module _ (f : PacketId → ℕ) (h : List TickRecord) where
         ∙ total-append f (ids (leaves h)) (map idOf (onLinePackets s)) in
         omega (arith, sends-split, begun, left, leaves-split)
 
-pub account : (n : RemyNetwork) (h : List TickRecord) (s : Simulation) → KeptAt n h s → Account n h s
+account : (n : RemyNetwork) (h : List TickRecord) (s : Simulation) → ListsAt n h s → Account n h s
 account n h s k =
     record {
       network = k .network;
@@ -161,4 +185,4 @@ account n h s k =
 
 -- Nobody who builds an accepted network and ticks it can mislay a packet or meet one twice.
 pub demand3 : Demand3
-demand3 n s fresh cs = account n (history cs s) (after cs s) (calls-keep n cs [] s (fresh-kept n s fresh))
+demand3 n s fresh cs = account n (history cs s) (after cs s) (calls-keep n cs [] s (fresh-keeps n s fresh) .lists)

@@ -46,6 +46,7 @@ use Rattle.remy.specs.Build.{newLine, newSender, Parts, noParts, populat
 use Rattle.remy.specs.Fit.{upTo, eachSender, held, heldIfAny, isIdle, heldSender, heldQueued, isNext, startedFit, meterStartFit, sameTime, nextFit, networkFit, ringsFit, packetsFit, bitsFit, clockFit, heldTimesFit, pastFit, totalsFit, sumsFit, recordsFit, dueFit, countsFit, windowsFit, timersFit, togglersAgree, metersAgree, meterBitsFit, queueFit, fit}
 use Rattle.remy.proofs.Facts.{both-l, both-r, holds}
 use Rattle.remy.proofs.Networks.{fit-network, few-senders}
+use Rattle.remy.proofs.Lists.{All}
 use Rattle.remy.proofs.Kept.{at-set}
 use Rattle.remy.proofs.Steps.{cond-elim}
 use Rattle.remy.proofs.Roles.{Real, role-at}
@@ -131,12 +132,7 @@ new-toggler g d h =
     (λ t. record { off = refl; soon = sum-within (positiveOf d g .value) (redraw-within 8 d h g) })
     (λ t. record { off = refl; soon = zero-within })
 
--- every element has P
-abbrev pub All : {A : Type 0} → (A → Type 0) → List A → Type 0
-All P [] = Unit {0}
-All P (x ∷ l) = P x × All P l
-
--- so has each of 16
+-- each of 16 elements has P
 abbrev pub Filled : {A : Type 0} → (A → Type 0) → List A → Type 0
 Filled P l = (length l ≡ 16) × All P l
 

@@ -14,12 +14,13 @@ use Rattle.quantities.specs.Doubles.{zeroF, power, inRange}
 use Rattle.quantities.proofs.Order.{le-known-r, not-lt→le}
 use Rattle.meters.specs.Meter.{totalFit, sumFit}
 use Rattle.link.specs.declared.packet.Packet.{Packet}
-use Rattle.link.specs.Ring.{items, popped}
+use Rattle.link.specs.Ring.{places, items, popped}
 use Rattle.link.proofs.Items.{Sound, items-pop}
 use Rattle.remy.specs.declared.simulation.Simulation.{Simulation}
 use Rattle.remy.specs.Network.{between, networkStop}
 use Rattle.remy.specs.State.{noPacket, noTransit, senderAt, meterAt, firstOf, frontOf, waitingItems, onLinePackets}
-use Rattle.remy.specs.Fit.{every, eachSender, packetFit, packetsFit, clockFit, sinceStart, startedFit, meterStartFit, pastFit, totalsFit, sumsFit, countOf, recordsFit, ackFit, countsFit, meterBitsFit, networkFit}
+use Rattle.remy.specs.Fit.{every, eachSender, ringsFit, packetFit, packetsFit, clockFit, sinceStart, startedFit, meterStartFit, pastFit, totalsFit, sumsFit, countOf, recordsFit, ackFit, countsFit, meterBitsFit, networkFit}
+use Rattle.remy.specs.HeldTimes.{Full}
 use Rattle.remy.proofs.Facts.{both-l, both-r, upTo-at, every-first, FitState}
 use Rattle.remy.proofs.Networks.{FitNetwork, fit-network, few-bits}
 use Rattle.remy.proofs.Taken.{MeterFacts}
@@ -38,6 +39,27 @@ module _ (s : Simulation) (f : FitState s) where
   clock-bounded e =
       not-lt→le (power 40) (s .head .clock .0 .0) (le-known-r (power 40) (power 40) (unfold le in tt)) (le-known-r zeroF (s .head .clock .0 .0) from-zero)
       (subst (λ (b : Bool). T (not b)) (sym e) tt)
+
+  -- both rings, where the arrays have all their places
+  pub rings : Full s → Sound (s .waiting) (s .line .waiting) × Sound (s .«on_line») (s .line .«on_line»)
+  unfolding ringsFit
+  rings full =
+      let w = s .line .waiting in
+      let m = s .line .«on_line» in
+      let counts = leb (w .count) places && leb (m .count) places in
+      let by-start = both-l (counts && ltb (w .start) places) (ltb (m .start) places) (f .rings) in
+      let by-counts = both-l counts (ltb (w .start) places) by-start in (
+        record {
+          full = full .waiting;
+          start = ltb-true (w .start) places (both-r counts (ltb (w .start) places) by-start);
+          count = leb-true (w .count) places (both-l (leb (w .count) places) (leb (m .count) places) by-counts);
+        },
+        record {
+          full = full .moving;
+          start = ltb-true (m .start) places (both-r (counts && ltb (w .start) places) (ltb (m .start) places) (f .rings));
+          count = leb-true (m .count) places (both-r (leb (w .count) places) (leb (m .count) places) by-counts);
+        },
+      )
 
   module _ (i : ℕ) (h : i < s .network .senders) where
     at : (g : ℕ → Bool) → eachSender s g ≡ true → g i ≡ true

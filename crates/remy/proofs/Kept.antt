@@ -15,30 +15,30 @@ use Rattle.quantities.specs.declared.time.Time.{Time}
 use Rattle.quantities.specs.declared.time.OptionTime.{OptionTime}
 use Rattle.quantities.specs.Units.{spanOf, rateOf, amountOverRate}
 use Rattle.meters.specs.declared.meter.AverageFlowMeter.{AverageFlowMeter}
-use Rattle.sender.specs.declared.lossy.SenderState.{SenderState}
-use Rattle.sender.specs.declared.lossy.SenderState.the-variants as State
 use Rattle.sender.specs.declared.lossy.LossySender.{LossySender}
 use Rattle.toggler.specs.declared.toggler.Toggler.{Toggler}
-use Rattle.toggler.specs.Queue.{noQueued}
 use Rattle.remy.specs.declared.network.RemyNetwork.{RemyNetwork}
 use Rattle.remy.specs.declared.simulation.Simulation.{Simulation}
 use Rattle.remy.specs.Network.{between}
-use Rattle.remy.specs.State.{noTransit, noSender, noToggler, noMeter, senderAt, togglerAt, meterAt, queuedAt, senderBits, packetBits, withSender, withToggler, withMeter, withQueued}
+use Rattle.remy.specs.State.{noSender, noMeter, senderAt, meterAt, senderBits, packetBits, withSender, withToggler, withMeter, withQueued}
 use Rattle.remy.specs.History.{PacketId, Entry, ids}
 use Rattle.remy.specs.Account.{total, ofSender, isPacket}
 use Rattle.remy.proofs.Lists.{map-append, total-append}
 use Rattle.remy.proofs.Lines.{LineKept}
-use Rattle.remy.proofs.Plain.{Plain, PlainIfAny, PlainOrLeast}
 
 -- ---- elements after a store: at one index, and at every index
 
+-- a fact that may read the index
+pub at-index : {A : Type 0} (P : ℕ → A → Type 0) (d : A) (l : List A) (j : ℕ) (x : A) (i : ℕ) → P i (getD l i d) → P j x → P i (getD (set l j x) i d)
+at-index P d [] j x i there p = there
+at-index P d (y ∷ l) zero x zero there p = p
+at-index P d (y ∷ l) zero x (suc i) there p = there
+at-index P d (y ∷ l) (suc j) x zero there p = there
+at-index P d (y ∷ l) (suc j) x (suc i) there p = at-index (λ n. P (suc n)) d l j x i there p
+
 module _ {A : Type 0} (P : A → Type 0) (d : A) where
   pub at-set : (l : List A) (j : ℕ) (x : A) (i : ℕ) → P (getD l i d) → P x → P (getD (set l j x) i d)
-  at-set [] j x i there p = there
-  at-set (y ∷ l) zero x zero there p = p
-  at-set (y ∷ l) zero x (suc i) there p = there
-  at-set (y ∷ l) (suc j) x zero there p = there
-  at-set (y ∷ l) (suc j) x (suc i) there p = at-set l j x i there p
+  at-set = at-index (λ n. P) d
 
   pub all-set : (l : List A) (j : ℕ) (x : A) → ((i : ℕ) → P (getD l i d)) → P x → (i : ℕ) → P (getD (set l j x) i d)
   all-set l j x all p i = at-set l j x i (all i) p
@@ -61,10 +61,6 @@ one-above m c other = cases (leb m c) (leb-true m c) (leb-false m c)
 
 -- ---- what is kept
 
-abbrev pub PlainTimer : SenderState → Type 0
-PlainTimer State.WaitingForEnable = Unit {0}
-PlainTimer (State.Enabled e) = PlainIfAny (e .timer)
-
 -- whether (i, m) was sent, where sender i sent so many
 abbrev pub wasSent : RemyNetwork → ℕ → ℕ → ℕ → ℕ
 wasSent n i sent m = cond (ltb i (n .senders) && between 1 sent m) 1 0
@@ -79,12 +75,6 @@ pub record Kept (n : RemyNetwork) (admitted started left sent : List Entry) (cou
   pub sends : (i : ℕ) → senderAt s i .«packets_sent» ≡ total (ofSender i) (ids sent)
   pub once : (i m : ℕ) → total (isPacket i m) (ids sent) ≡ wasSent n i (senderAt s i .«packets_sent») m
   pub meter : (i : ℕ) → i < n .senders → meterAt s i .records ≡ total (ofSender i) counted
-  pub clock : Plain (s .head .clock)
-  pub queued : (k : ℕ) → PlainIfAny (queuedAt s k)
-  pub due : (k : ℕ) → Plain (getD (s .«on_line») k noTransit .due)
-  pub timer : (i : ℕ) → PlainTimer (senderAt s i .state)
-  pub toggle : (i : ℕ) → Plain (togglerAt s i .«next_toggle»)
-  pub free : PlainOrLeast (s .line .«earliest_transmit»)
 
 -- the same lists, written otherwise
 pub kept-lists : {n : RemyNetwork} {a a' b b' c c' d d' : List Entry} {e e' : List PacketId} {s : Simulation}
@@ -99,8 +89,8 @@ kept-lists {n} {a} {a'} {b} {b'} {c} {c'} {d} {d'} {e} {e'} {s} p q r t u k =
 module _ {n : RemyNetwork} {admitted started left sent : List Entry} {counted : List PacketId} {s : Simulation}
     (k : Kept n admitted started left sent counted s) where
   -- a sender that has sent as many as before
-  pub keep-sender : (i : ℕ) (x : LossySender) → x .«packets_sent» ≡ senderAt s i .«packets_sent» → PlainTimer (x .state) → Kept n admitted started left sent counted (withSender s i x)
-  keep-sender i x e p =
+  pub keep-sender : (i : ℕ) (x : LossySender) → x .«packets_sent» ≡ senderAt s i .«packets_sent» → Kept n admitted started left sent counted (withSender s i x)
+  keep-sender i x e =
       let same : (j : ℕ) → senderAt (withSender s i x) j .«packets_sent» ≡ senderAt s j .«packets_sent» = same-set (λ y. y .«packets_sent») noSender (s .senders) i x e in
       record {
         network = k .network;
@@ -110,17 +100,11 @@ module _ {n : RemyNetwork} {admitted started left sent : List Entry} {counted : 
         sends = λ j. same j ∙ k .sends j;
         once = λ j m. k .once j m ∙ ap (λ c. wasSent n j c m) (sym (same j));
         meter = k .meter;
-        clock = k .clock;
-        queued = k .queued;
-        due = k .due;
-        timer = all-set (λ y. PlainTimer (y .state)) noSender (s .senders) i x (k .timer) p;
-        toggle = k .toggle;
-        free = k .free;
       }
 
   -- a toggler
-  pub keep-toggler : (i : ℕ) (x : Toggler) → Plain (x .«next_toggle») → Kept n admitted started left sent counted (withToggler s i x)
-  keep-toggler i x p =
+  pub keep-toggler : (i : ℕ) (x : Toggler) → Kept n admitted started left sent counted (withToggler s i x)
+  keep-toggler i x =
       record {
         network = k .network;
         senders-full = k .senders-full;
@@ -129,17 +113,11 @@ module _ {n : RemyNetwork} {admitted started left sent : List Entry} {counted : 
         sends = k .sends;
         once = k .once;
         meter = k .meter;
-        clock = k .clock;
-        queued = k .queued;
-        due = k .due;
-        timer = k .timer;
-        toggle = all-set (λ y. Plain (y .«next_toggle»)) noToggler (s .togglers) i x (k .toggle) p;
-        free = k .free;
       }
 
   -- a queued time
-  pub keep-queued : (j : ℕ) (t : OptionTime) → PlainIfAny t → Kept n admitted started left sent counted (withQueued s j t)
-  keep-queued j t p =
+  pub keep-queued : (j : ℕ) (t : OptionTime) → Kept n admitted started left sent counted (withQueued s j t)
+  keep-queued j t =
       record {
         network = k .network;
         senders-full = k .senders-full;
@@ -148,12 +126,6 @@ module _ {n : RemyNetwork} {admitted started left sent : List Entry} {counted : 
         sends = k .sends;
         once = k .once;
         meter = k .meter;
-        clock = k .clock;
-        queued = all-set (λ y. PlainIfAny (y .time)) noQueued (s .queue) j (record { time = t }) (k .queued) p;
-        due = k .due;
-        timer = k .timer;
-        toggle = k .toggle;
-        free = k .free;
       }
 
   -- a meter that has as many records as before
@@ -167,12 +139,6 @@ module _ {n : RemyNetwork} {admitted started left sent : List Entry} {counted : 
         sends = k .sends;
         once = k .once;
         meter = λ j h. same-set (λ y. y .records) noMeter (s .meters) i x e j ∙ k .meter j h;
-        clock = k .clock;
-        queued = k .queued;
-        due = k .due;
-        timer = k .timer;
-        toggle = k .toggle;
-        free = k .free;
       }
 
   -- a meter with one record more, of a packet of its sender
@@ -187,12 +153,6 @@ module _ {n : RemyNetwork} {admitted started left sent : List Entry} {counted : 
         sends = k .sends;
         once = k .once;
         meter = λ j g. counts j g (ℕ-discrete j i);
-        clock = k .clock;
-        queued = k .queued;
-        due = k .due;
-        timer = k .timer;
-        toggle = k .toggle;
-        free = k .free;
       }
     where
       inside : i < length (s .meters)
@@ -214,9 +174,9 @@ module _ {n : RemyNetwork} {admitted started left sent : List Entry} {counted : 
           ∙ sym (more j ∙ ap (λ c. total (ofSender j) counted + c) none ∙ add-zero (total (ofSender j) counted))
 
   -- a sender that has sent one more, the packet that follows its last
-  pub count-sent : (i : ℕ) (x : LossySender) (t : Time) → i < n .senders → n .senders ≤ 16 → x .«packets_sent» ≡ senderAt s i .«packets_sent» + 1 → PlainTimer (x .state)
+  pub count-sent : (i : ℕ) (x : LossySender) (t : Time) → i < n .senders → n .senders ≤ 16 → x .«packets_sent» ≡ senderAt s i .«packets_sent» + 1
       → Kept n admitted started left (sent ++ (record { time = t; packet = record { sender = i; seq = senderAt s i .«packets_sent» + 1 } } ∷ [])) counted (withSender s i x)
-  count-sent i x t h few e p =
+  count-sent i x t h few e =
       record {
         network = k .network;
         senders-full = length-set (s .senders) i x ∙ k .senders-full;
@@ -225,12 +185,6 @@ module _ {n : RemyNetwork} {admitted started left sent : List Entry} {counted : 
         sends = λ j. counts j (ℕ-discrete j i);
         once = λ j m. ones j m (ℕ-discrete j i);
         meter = k .meter;
-        clock = k .clock;
-        queued = k .queued;
-        due = k .due;
-        timer = all-set (λ y. PlainTimer (y .state)) noSender (s .senders) i x (k .timer) p;
-        toggle = k .toggle;
-        free = k .free;
       }
     where
       next : PacketId

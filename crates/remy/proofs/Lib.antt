@@ -15,8 +15,13 @@ pub mod Roles
 pub mod Parts
 pub mod Outcomes
 pub mod Turns
-pub mod Start
-pub mod Account
-pub mod Names
 pub mod Empty
 pub mod Fresh
+pub mod NewTimes
+pub mod HeldTimes
+pub mod PlainTimes
+pub mod Start
+pub mod Full
+pub mod Account
+pub mod Names
+pub mod Numbers

@@ -1,13 +1,16 @@
--- Lists of entries, and sums of weights over lists of packets: both go through an append. Assumes nothing.
-use mathlib.Core.Path.{_≡_, refl, sym, ap, _∙_}
+-- Lists of entries, and sums of weights over lists of packets: both go through an append; facts of every member of a list. Assumes nothing.
+use mathlib.Core.Path.{_≡_, refl, sym, ap, subst, _∙_}
+use mathlib.Core.Logic.{inl, inr}
 use mathlib.Core.Bool.{Bool, true, false, _||_}
-use mathlib.Core.List.{List, [], _∷_, _++_, map}
-use Prim.Native.Nat.{ℕ, zero, suc, _+_}
+use mathlib.Core.List.{List, [], _∷_, _++_, map, List·Memᴰ, List·Memᴰ·head, List·Memᴰ·tail, List·Memᴰ·not-nil, List·Memᴰ·cases-cons}
+use Prim.Native.Nat.{ℕ, zero, suc, _+_, _%_}
 use native.Mathlib.Nat.{zero-add, add-assoc}
 use native.Mathlib.Omega.{arith}
-use lib.ListN.{length, take}
+use lib.ListN.{length, getD, take}
 use Rattle.quantities.specs.declared.time.Time.{Time}
 use Rattle.link.specs.declared.packet.Packet.{Packet}
+use Rattle.link.specs.declared.ring.Ring.{Ring}
+use Rattle.link.specs.Ring.{places, itemsFrom, items}
 use Rattle.remy.specs.declared.simulation.Mark.{Mark}
 use Rattle.remy.specs.declared.simulation.Name.{Name}
 use Rattle.remy.specs.declared.simulation.Name.the-variants as Name
@@ -76,3 +79,51 @@ module _ (f : PacketId → ℕ) where
 pub bits-append : (size : Packet → ℕ) (xs ys : List Packet) → totalBits size (xs ++ ys) ≡ totalBits size xs + totalBits size ys
 bits-append size [] ys = sym (zero-add (totalBits size ys))
 bits-append size (x ∷ xs) ys = ap (λ n. size x + n) (bits-append size xs ys) ∙ sym (add-assoc (size x) (totalBits size xs) (totalBits size ys))
+
+-- ---- facts of every member
+
+abbrev pub All : {A : Type 0} → (A → Type 0) → List A → Type 0
+All P [] = Unit {0}
+All P (x ∷ l) = P x × All P l
+
+module _ {A : Type 0} (P : A → Type 0) where
+  pub all-first : (x : A) (xs : List A) → All P (x ∷ xs) → P x
+  all-first x xs a = a .0
+
+  pub all-append : (xs ys : List A) → All P xs → All P ys → All P (xs ++ ys)
+  all-append [] ys a b = b
+  all-append (x ∷ xs) ys a b = (a .0, all-append xs ys (a .1) b)
+
+pub all-map : {A : Type 0} (P Q : A → Type 0) → ((x : A) → P x → Q x) → (xs : List A) → All P xs → All Q xs
+all-map P Q f [] a = tt
+all-map P Q f (x ∷ xs) a = (f x (a .0), all-map P Q f xs (a .1))
+
+-- of the members' images
+pub all-mapped : {A B : Type 0} (P : B → Type 0) (f : A → B) (xs : List A) → All (λ x. P (f x)) xs → All P (map f xs)
+all-mapped P f [] a = tt
+all-mapped P f (x ∷ xs) a = (a .0, all-mapped P f xs (a .1))
+
+pub all-unmapped : {A B : Type 0} (P : B → Type 0) (f : A → B) (xs : List A) → All P (map f xs) → All (λ x. P (f x)) xs
+all-unmapped P f [] a = tt
+all-unmapped P f (x ∷ xs) a = (a .0, all-unmapped P f xs (a .1))
+
+-- of a ring's items, where it holds at every index
+pub items-all : {A : Type 0} (P : A → Type 0) (d : A) (slots : List A) (r : Ring) → ((i : ℕ) → P (getD slots i d)) → All P (items d slots r)
+items-all P d slots r f = from (r .start) (r .count)
+  where
+    from : (at n : ℕ) → All P (itemsFrom d slots at n)
+    from at zero = tt
+    from at (suc n) = (f (at % places), from (at + 1) n)
+
+-- by membership
+module _ {A : Type 0} (P : A → Type 0) where
+  pub all-member : (xs : List A) → All P xs → (x : A) → List·Memᴰ x xs → P x
+  all-member [] a x m = absurd (List·Memᴰ·not-nil m)
+  all-member (y ∷ ys) a x m = elim (List·Memᴰ·cases-cons m) [
+    | inl e ↦ subst P (sym e) (a .0)
+    | inr n ↦ all-member ys (a .1) x n
+  ]
+
+  pub member-all : (xs : List A) → ((x : A) → List·Memᴰ x xs → P x) → All P xs
+  member-all [] f = tt
+  member-all (x ∷ xs) f = (f x (List·Memᴰ·head refl), member-all xs (λ y m. f y (List·Memᴰ·tail m)))

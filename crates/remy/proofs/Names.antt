@@ -11,7 +11,7 @@ use lib.Dec.{leb, eqb}
 use lib.ListN.{length}
 use lib.Ieee.{lt}
 use Rattle.quantities.specs.declared.time.Time.{Time}
-use Rattle.quantities.specs.Units.{spanOf, rateOf, amountOverRate}
+use Rattle.quantities.specs.Units.{spanOf, rateOf}
 use Rattle.rand.specs.Draws.{unitOf}
 use Rattle.link.specs.declared.packet.Packet.{Packet}
 use Rattle.link.specs.declared.link.Line.{Line}
@@ -23,14 +23,12 @@ use Rattle.sender.specs.declared.lossy.Enabled.{Enabled}
 use Rattle.sender.specs.declared.lossy.SenderState.{SenderState}
 use Rattle.sender.specs.declared.lossy.SenderState.the-variants as State
 use Rattle.sender.specs.declared.lossy.Sent.{Sent}
-use Rattle.sender.specs.declared.lossy.TimerTicked.{TimerTicked}
 use Rattle.sender.specs.declared.lossy.Heard.{Heard}
 use Rattle.sender.specs.declared.lossy.Heard.the-variants as Heard
 use Rattle.toggler.specs.declared.toggler.Toggled.{Toggled}
 use Rattle.link.specs.Ring.{places}
-use Rattle.quantities.specs.NewTime.{newTime}
-use Rattle.link.specs.Link.{isDue, departed, receiveOf, tryDeliver, isFree, notStarted, startWith, tryTransmit}
-use Rattle.sender.specs.Sender.{timerDue, tickTimer, tickSend, timerSent, returnedOf, sentWith}
+use Rattle.link.specs.Link.{isDue, departed, receiveOf, tryDeliver, isFree, notStarted, tryTransmit}
+use Rattle.sender.specs.Sender.{timerDue, tickTimer, tickSend, returnedOf, sentWith}
 use Rattle.toggler.specs.Toggler.{toggleOf}
 use Rattle.link.proofs.Limits.{due-count, free-count}
 use Rattle.remy.specs.declared.network.RemyNetwork.{RemyNetwork}
@@ -53,8 +51,7 @@ use Rattle.remy.proofs.Front.{first-sender, front-sender}
 use Rattle.remy.proofs.Steps.{cond-elim}
 use Rattle.remy.proofs.Roles.{Real, role-at}
 use Rattle.remy.proofs.Outcomes.{OnMoves, on-stopped}
-use Rattle.remy.proofs.Start.{fresh-kept}
-use Rattle.remy.proofs.Account.{KeptAt, tick-elim, call-keeps, either, demand3}
+use Rattle.remy.proofs.Account.{KeptAt, tick-elim, call-keeps, fresh-keeps, either, demand3}
 
 -- ---- a record, by its mark
 
@@ -82,10 +79,7 @@ module _ (n : RemyNetwork) where
 sent-own : (sent : ℕ) (s : Simulation) (e : Enabled) (i : ℕ) → tickSend sent (s .network .policy) e (s .head .clock) i .packet .sender ≡ i
 unfolding tickSend
 sent-own sent s e i =
-    let set = timerSent (s .network .policy) (e .timer) (s .head .clock) in
-    cond-elim (λ (t : Sent). t .packet .sender ≡ i) (leb 16777216 sent) _ (sentWith sent (s .network .policy) e (s .head .clock) i set)
-    (λ spent. refl)
-    (λ room. cond-elim (λ (t : Sent). t .packet .sender ≡ i) (eqb (set .number) 0) _ _ (λ z. refl) (λ z. refl))
+    cond-elim (λ (t : Sent). t .packet .sender ≡ i) (leb 16777216 sent) _ (sentWith sent (s .network .policy) e (s .head .clock) i) (λ spent. refl) (λ room. refl)
 
 module _ (s : Simulation) where
   abbrev Good : TickRecord → Simulation → Type 0
@@ -137,12 +131,6 @@ module _ (s : Simulation) where
         (λ z. arrived-named (t .packet) own (requeue (withSender s i (enabledSender (senderAt s i) (t .«packets_sent») (t .enabled))) (sender i)))
         (on-stopped Good (sender i) s (t .number))
 
-    timer-turn : (t : TimerTicked) → OnMoves Good (outcomeWith (sender i) (timerWith s i t))
-    timer-turn t =
-        cond-elim (λ (a : Acted). OnMoves Good (outcomeWith (sender i) a)) (eqb (t .number) 0) _ (stopped s (t .number))
-        (λ z. other-named (s .network) _ (inl refl) refl refl refl)
-        (on-stopped Good (sender i) s (t .number))
-
     sender-turn : (x : SenderState) → OnMoves Good (outcomeWith (sender i) (senderWith s i x))
     sender-turn State.WaitingForEnable = tt
     sender-turn (State.Enabled e) =
@@ -150,7 +138,7 @@ module _ (s : Simulation) where
         let clock = s .head .clock in
         let sent = senderAt s i .«packets_sent» in
         cond-elim (λ (a : Acted). OnMoves Good (outcomeWith (sender i) a)) (timerDue e clock) (timerWith s i (tickTimer policy e clock)) (sendWith s i (tickSend sent policy e clock i))
-        (λ due. timer-turn (tickTimer policy e clock))
+        (λ due. other-named (s .network) _ (inl refl) refl refl refl)
         (λ due. send-turn (tickSend sent policy e clock i) (sent-own sent s e i))
 
   -- ---- a toggler's
@@ -177,16 +165,10 @@ module _ {adm sts lvs snd : List Entry} {cnt : List PacketId} {s : Simulation} (
   unfolding tryTransmit
   start-named l same =
       let F : Transmitted → Type 0 = λ t. Begins (s .network) 0 (begunName (t .begun)) in
-      let free = newTime (s .head .clock) (amountOverRate (packetBits (s .network) (firstOf s)) (rateOf (s .network .rate))) in
-      let due = newTime (s .head .clock) (spanOf (s .network .delay)) in
       cond-elim F (isFree l (s .head .clock)) _ (notStarted l 0)
-      (λ e. cond-elim F (leb places (l .«on_line» .count)) (notStarted l 13) (startWith l (firstOf s) (packetBits (s .network) (firstOf s)) free due)
+      (λ e. cond-elim F (leb places (l .«on_line» .count)) (notStarted l 13) _
       (λ full. inl refl)
-      (λ room. cond-elim F (eqb (free .number) 0) _ (notStarted l (free .number))
-      (λ z. cond-elim F (eqb (due .number) 0) _ (notStarted l (due .number))
-      (λ y. inr (packet-named (s .network) (firstOf s) (first-sender s f (k .line .queue) (subst (λ w. 0 < w .count) same (free-count l (s .head .clock) e))), refl))
-      (λ y. inl refl))
-      (λ z. inl refl)))
+      (λ room. inr (packet-named (s .network) (firstOf s) (first-sender s f (k .line .queue) (subst (λ w. 0 < w .count) same (free-count l (s .head .clock) e))), refl)))
       (λ e. inl refl)
 
   link-turn : OnMoves (Good s) (outcomeOf s link)
@@ -228,7 +210,7 @@ named-more n r h w all x m = elim (List·Memᴰ·cases-cons m) [
 tick-named : (h rest : List TickRecord) (s : Simulation) → KeptAt (s .network) h s → AllNamed (s .network) rest → AllNamed (s .network) (noted (tickOf s) rest)
 tick-named h rest s k all =
     tick-elim (λ (t : Ticked). AllNamed (s .network) (noted t rest)) s (λ number. all)
-    (λ f early j. moved (outcomeOf s (roleOf (s .network .senders) j)) (turn-named f k j))
+    (λ f early j. moved (outcomeOf s (roleOf (s .network .senders) j)) (turn-named f (k .lists) j))
   where
     moved : (o : Outcome) → OnMoves (Good s) o → AllNamed (s .network) (noted (ticked s o) rest)
     moved (stops number) w = all
@@ -236,8 +218,8 @@ tick-named h rest s k all =
 
 call-named : (n : RemyNetwork) (c : Call) (h rest : List TickRecord) (s : Simulation) → KeptAt n h s → AllNamed n rest → AllNamed n (noted (called c s) rest)
 call-named n tick h rest s k all =
-    subst (λ (m : RemyNetwork). AllNamed m (noted (tickOf s) rest)) (k .network)
-    (tick-named h rest s (subst (λ (m : RemyNetwork). KeptAt m h s) (sym (k .network)) k) (subst (λ (m : RemyNetwork). AllNamed m rest) (sym (k .network)) all))
+    subst (λ (m : RemyNetwork). AllNamed m (noted (tickOf s) rest)) (k .lists .network)
+    (tick-named h rest s (subst (λ (m : RemyNetwork). KeptAt m h s) (sym (k .lists .network)) k) (subst (λ (m : RemyNetwork). AllNamed m rest) (sym (k .lists .network)) all))
 
 calls-named : (n : RemyNetwork) (cs : List Call) (h : List TickRecord) (s : Simulation) → KeptAt n h s → AllNamed n (history cs s)
 calls-named n [] h s k = λ r m. absurd (List·Memᴰ·not-nil m)
@@ -247,7 +229,7 @@ calls-named n (c ∷ cs) h s k =
 
 -- Every record with S, F, L, C, O or I names a packet of a sender of the network, and with S or F one of its own part's sender.
 pub marks-name : MarksName
-marks-name n s fresh cs = calls-named n cs [] s (fresh-kept n s fresh)
+marks-name n s fresh cs = calls-named n cs [] s (fresh-keeps n s fresh)
 
 -- ---- counting
 

@@ -4,15 +4,17 @@ use mathlib.Core.Bool.{Bool, true, false, _&&_, cond}
 use Prim.Native.Nat.{ℕ, suc, _≤_}
 use native.Mathlib.Omega.{arith}
 use borrow.Author.Tests.{leb-true}
-use lib.Dec.{T, leb}
+use lib.Dec.{leb}
 use lib.IntN.{negsuc}
-use lib.Ieee.{fin, le}
+use lib.Ieee.{Float, fin, le}
 use Rattle.quantities.specs.Doubles.{zeroF, power}
 use Rattle.quantities.specs.Units.{amountOf, rateOf, amountOverRate}
 use Rattle.quantities.proofs.Order.{le-trans}
-use Rattle.quantities.proofs.Ranges.{sending}
+use Rattle.quantities.proofs.Ranges.{within, within-wider, test→within}
+use Rattle.link.proofs.NewTimes as Link
+use Rattle.sender.specs.declared.lossy.Policy.the-variants.{Timed}
 use Rattle.remy.specs.declared.network.RemyNetwork.{RemyNetwork}
-use Rattle.remy.specs.Network.{between, delayFit, rateFit, lossFit, limitFit, sizesFit, timesFit, policyFit, networkStop}
+use Rattle.remy.specs.Network.{between, windowFit, gapFit, delayFit, rateFit, lossFit, limitFit, sizesFit, timesFit, policyFit, networkStop}
 use Rattle.remy.proofs.Facts.{both-l, both-r, range-low, range-high, between-low, between-high}
 
 pub record FitNetwork (n : RemyNetwork) : Type 0 where
@@ -52,6 +54,10 @@ fit-network n e1 =
       policy = passed (policyFit (n .policy)) _ 6 e7;
     }
 
+-- a delay, a gap and a draw are at most 2^20
+pub far : (x : Float) → within x (power 20) → within x (power 40)
+far x w = within-wider x (power 20) (power 40) w (unfold le in tt)
+
 module _ {n : RemyNetwork} (f : FitNetwork n) where
   pub few-senders : n .senders ≤ 16
   few-senders = leb-true (n .senders) 16 (both-r (between 1 16777216 (n .bits)) (leb (n .senders) 16) (f .sizes))
@@ -65,12 +71,16 @@ module _ {n : RemyNetwork} (f : FitNetwork n) where
   pub few-bits : n .bits ≤ 16777216
   few-bits = between-high 1 16777216 (n .bits) bits-between
 
-  pub delay-from-zero : T (le zeroF (n .delay))
-  delay-from-zero = range-low zeroF (power 20) (n .delay) (f .delay)
+  -- ---- the spans that a tick adds to the clock
+  pub delay-within : within (n .delay) (power 40)
+  delay-within = far (n .delay) (test→within (power 20) (n .delay) (f .delay))
 
-  -- the time that a packet takes to start is not below zero
-  pub sending-from-zero : T (le zeroF (amountOverRate (amountOf (n .bits)) (rateOf (n .rate)) .0))
-  sending-from-zero =
-      let q = amountOverRate (amountOf (n .bits)) (rateOf (n .rate)) .0 in
-      let s = sending (n .bits) (n .rate) some-bits few-bits (range-low (power 0) (power 50) (n .rate) (f .rate)) (range-high (power 0) (power 50) (n .rate) (f .rate)) in
-      le-trans zeroF (fin false 1 (negsuc 49)) q (unfold le in tt) (s .1)
+  pub sending-within : within (amountOverRate (amountOf (n .bits)) (rateOf (n .rate)) .0) (power 40)
+  sending-within =
+      Link.start-within (amountOf (n .bits)) (rateOf (n .rate)) some-bits few-bits (range-low (power 0) (power 50) (n .rate) (f .rate)) (range-high (power 0) (power 50) (n .rate) (f .rate))
+
+pub gap-within : (most : ℕ) (gap : Float) → policyFit (Timed most gap) ≡ true → within gap (power 40)
+gap-within most gap f =
+    let least = fin false 1 (negsuc 19) in
+    let fine = both-r (windowFit most) (gapFit gap) f in
+    far gap (le-trans zeroF least gap (unfold le in tt) (range-low least (power 20) gap fine), range-high least (power 20) gap fine)

@@ -6,7 +6,6 @@ use Rattle.rand.specs.Generator.{fromWords, outputOf, movedOn, fromSeed, childO
 use Rattle.rand.specs.Draws.{sampleOf, unitOf, uniformOf, drawOf, redraw}
 use Rattle.flows.specs.Sums.{summedOf, averageRtt}
 use Rattle.meters.specs.Meter.{startFit, meterFit, ready, switchedOf, recordedOf, enabledTime, readOf}
-use Rattle.quantities.specs.NewTime.{newTime}
 use Rattle.link.specs.Link as Link
 use Rattle.sender.specs.Sender as Sender
 use Rattle.toggler.specs.Toggler.{newToggler, toggleOf}
@@ -41,11 +40,11 @@ unfolding nextTimes fromWords networkStop Fit.networkFit Fit.ringsFit Fit.packet
 fitting = tt
 
 unfoldable pub link : Unit {0}
-unfolding draws newTime Link.admits Link.receiveOf Link.isDue Link.tryDeliver Link.isFree Link.tryTransmit
+unfolding draws Link.admits Link.receiveOf Link.isDue Link.tryDeliver Link.isFree Link.tryTransmit
 link = tt
 
 unfoldable pub sender : Unit {0}
-unfolding doubles newTime Sender.firstWindow Sender.windowSent Sender.windowCounted Sender.timerIn Sender.timerSent Sender.enabledOf Sender.disabledOf Sender.timerDue Sender.tickTimer Sender.tickSend Sender.returnedOf
+unfolding doubles Sender.firstWindow Sender.windowSent Sender.windowCounted Sender.timerSent Sender.enabledOf Sender.disabledOf Sender.timerDue Sender.tickTimer Sender.tickSend Sender.returnedOf
 sender = tt
 
 unfoldable pub building : Unit {0}
@@ -53,5 +52,5 @@ unfolding draws nextTimes networkStop newToggler populate ownTimes queuedAll soo
 building = tt
 
 unfoldable pub ticking : Unit {0}
-unfolding building fitting link sender meters newTime toggleOf requeue linkActs senderActs togglerActs actsOf deliver outcomeOf tickOf runOf
+unfolding building fitting link sender meters toggleOf requeue linkActs senderActs togglerActs actsOf deliver outcomeOf tickOf runOf
 ticking = tt

@@ -1,9 +1,8 @@
 -- A tick that moves keeps what a simulation keeps, with the lists grown by its record. Assumes nothing.
 use mathlib.Core.Path.{_≡_, refl, sym, ap, subst, _∙_}
 use mathlib.Core.Bool.{true, false, cond}
-use mathlib.Core.List.{List, [], _∷_, _++_, append-nil}
+use mathlib.Core.List.{List, [], _∷_, _++_, map, append-nil, List·Memᴰ, List·Memᴰ·head}
 use Prim.Native.Nat.{ℕ, _+_, _≤_, _<_}
-use borrow.Author.Tests.{eqb-true}
 use lib.Dec.{leb, eqb}
 use lib.ListN.{set}
 use lib.Ieee.{lt}
@@ -28,16 +27,17 @@ use Rattle.sender.specs.declared.lossy.SenderState.the-variants as State
 use Rattle.sender.specs.declared.lossy.Heard.the-variants as Heard
 use Rattle.sender.specs.declared.lossy.Returned.{Returned}
 use Rattle.link.specs.Ring.{places, placeAfter}
-use Rattle.quantities.specs.NewTime.{newTime}
-use Rattle.link.specs.Link.{isDue, departed, tryDeliver, isFree, startedLine, notStarted, startWith, tryTransmit}
+use Rattle.link.specs.Link.{isDue, departed, tryDeliver, isFree, startedLine, notStarted, tryTransmit}
 use Rattle.sender.specs.Sender.{withState, acked, returnTo, returnedOf}
 use Rattle.link.proofs.Limits.{due-count}
+use Rattle.link.proofs.Items.{items-pop}
+use Rattle.remy.specs.HeldTimes.{Holds}
 use Rattle.remy.specs.declared.network.RemyNetwork.{RemyNetwork}
 use Rattle.remy.specs.declared.simulation.Simulation.{Simulation}
 use Rattle.remy.specs.declared.simulation.Mark.the-variants as Mark
 use Rattle.remy.specs.declared.simulation.Name.the-variants as Name
 use Rattle.remy.specs.declared.simulation.TickRecord.{TickRecord}
-use Rattle.remy.specs.State.{Role, link, sender, senderAt, meterAt, firstOf, frontOf, packetBits, withLine, withOnLine, withSender}
+use Rattle.remy.specs.State.{Role, link, sender, noTransit, senderAt, meterAt, firstOf, frontOf, packetBits, withLine, withOnLine, withSender}
 use Rattle.remy.specs.Queue.{requeue, picked}
 use Rattle.remy.specs.Tick.{named, recordAt, returns, stopped, linkWith, linkActs, actsOf, Outcome, moves, stops, returnWith, deliver, pickAgain, outcomeWith, outcomeOf}
 use Rattle.remy.specs.History.{PacketId, idOf, Entry, ids, entryIf, sends, admissions, starts, leaves, counted}
@@ -45,10 +45,11 @@ use Rattle.remy.proofs.Lines.{entryAt}
 use Rattle.remy.proofs.Facts.{FitState}
 use Rattle.remy.proofs.Networks.{FitNetwork, few-senders, some-bits}
 use Rattle.remy.proofs.Taken.{record-taken}
-use Rattle.remy.proofs.Kept.{PlainTimer, Kept, kept-lists, keep-sender, count-meter}
+use Rattle.remy.proofs.Plain.{Plain, plain}
+use Rattle.remy.proofs.Kept.{Kept, kept-lists, keep-sender, count-meter}
 use Rattle.remy.proofs.Front.{accepted, meter-facts, front-sender, front-past, front-room}
 use Rattle.remy.proofs.Steps.{cond-elim, keep-requeue, keep-picked}
-use Rattle.remy.proofs.Parts.{new-is, keep-leave, keep-start}
+use Rattle.remy.proofs.Parts.{keep-leave, keep-start}
 
 -- ---- outcomes
 
@@ -83,7 +84,7 @@ abbrev after-start : Simulation → Line
 after-start s =
     startedLine (s .line) (packetBits (s .network) (firstOf s)) (spanAfter (s .head .clock) (amountOverRate (packetBits (s .network) (firstOf s)) (rateOf (s .network .rate))))
 
-module _ {adm sts lvs snd : List Entry} {cnt : List PacketId} {s : Simulation} (k : Kept (s .network) adm sts lvs snd cnt s) (ok : FitNetwork (s .network)) where
+module _ {adm sts lvs snd : List Entry} {cnt : List PacketId} {s : Simulation} (k : Kept (s .network) adm sts lvs snd cnt s) where
   pub transmit-elim : (F : Transmitted → Type 0) → F (notStarted (s .line) 0) → ((m : ℕ) → eqb m 0 ≡ false → F (notStarted (s .line) m))
       → (Kept (s .network) adm (sts ++ (entryAt (s .head .clock) (firstOf s) ∷ [])) lvs snd cnt (withLine (withOnLine s (set (s .«on_line») (placeAfter (s .line .«on_line»)) (begins s))) (after-start s))
       → F (record { number = 0; begun = Begun.Starts (begins s); line = after-start s }))
@@ -92,17 +93,9 @@ module _ {adm sts lvs snd : List Entry} {cnt : List PacketId} {s : Simulation} (
   transmit-elim F none stop go =
       let l = s .line in
       let clock = s .head .clock in
-      let free = newTime clock (amountOverRate (packetBits (s .network) (firstOf s)) (rateOf (s .network .rate))) in
-      let due = newTime clock (spanOf (s .network .delay)) in
-      let started : Transmitted = record { number = 0; begun = Begun.Starts (record { packet = firstOf s; due = due .time }); line = startedLine l (packetBits (s .network) (firstOf s)) (free .time) } in
-      cond-elim F (isFree l clock) (cond (leb places (l .«on_line» .count)) (notStarted l 13) (startWith l (firstOf s) (packetBits (s .network) (firstOf s)) free due)) (notStarted l 0)
-      (λ e. cond-elim F (leb places (l .«on_line» .count)) (notStarted l 13) (startWith l (firstOf s) (packetBits (s .network) (firstOf s)) free due)
-      (λ full. stop 13 refl)
-      (λ room. cond-elim F (eqb (free .number) 0) (cond (eqb (due .number) 0) started (notStarted l (due .number))) (notStarted l (free .number))
-      (λ f. cond-elim F (eqb (due .number) 0) started (notStarted l (due .number))
-      (λ g. rw (new-is clock _ (eqb-true (free .number) 0 f), new-is clock _ (eqb-true (due .number) 0 g)) (go (keep-start k ok e room)))
-      (λ g. stop (due .number) g))
-      (λ f. stop (free .number) f)))
+      let starts : Transmitted = record { number = 0; begun = Begun.Starts (begins s); line = after-start s } in
+      cond-elim F (isFree l clock) (cond (leb places (l .«on_line» .count)) (notStarted l 13) starts) (notStarted l 0)
+      (λ e. cond-elim F (leb places (l .«on_line» .count)) (notStarted l 13) starts (λ full. stop 13 refl) (λ room. go (keep-start k e room)))
       (λ e. none)
 
 -- ---- a packet that comes back
@@ -126,7 +119,7 @@ module _ (adm sts lvs snd : List Entry) (cnt : List PacketId) (s : Simulation) (
 
     -- the sender as it was: ignored or old
     unheard : Kept (s .network) adm sts lvs snd cnt (requeue (withSender s (p .sender) (senderAt s (p .sender))) (sender (p .sender)))
-    unheard = keep-requeue (keep-sender k (p .sender) (senderAt s (p .sender)) refl (k .timer (p .sender))) (sender (p .sender))
+    unheard = keep-requeue (keep-sender k (p .sender) (senderAt s (p .sender)) refl) (sender (p .sender))
 
     back-with : (x : SenderState) → senderAt s (p .sender) .state ≡ x → OnMoves Back (returnWith r s (p .sender) p (returnTo (s .network .policy) (senderAt s (p .sender)) x p))
     back-with State.WaitingForEnable e =
@@ -141,7 +134,7 @@ module _ (adm sts lvs snd : List Entry) (cnt : List PacketId) (s : Simulation) (
           kept-lists refl refl refl refl (ap (λ (l : List Entry). cnt ++ ids l) (sym left-entry))
               (keep-requeue
               (count-meter
-              (keep-sender k (p .sender) (withState (senderAt s (p .sender)) (State.Enabled (acked (s .network .policy) y p))) refl (subst PlainTimer e (k .timer (p .sender))))
+              (keep-sender k (p .sender) (withState (senderAt s (p .sender)) (State.Enabled (acked (s .network .policy) y p))) refl)
               (p .sender) _ (idOf p) own few refl more)
               (sender (p .sender))),
         ))
@@ -157,7 +150,7 @@ on-map P Q f (moves r m) k = f r m k
 -- ---- the link's turn
 
 module _ {adm sts lvs snd : List Entry} {cnt : List PacketId} {s : Simulation} (f : FitState s) (early : lt (power 40) (s .head .clock .0 .0) ≡ false)
-    (k : Kept (s .network) adm sts lvs snd cnt s) where
+    (clock : Plain (s .head .clock)) (held : Holds plain s) (k : Kept (s .network) adm sts lvs snd cnt s) where
   abbrev Good : TickRecord → Simulation → Type 0
   Good = Grown (s .network) adm sts lvs snd cnt
 
@@ -177,14 +170,20 @@ module _ {adm sts lvs snd : List Entry} {cnt : List PacketId} {s : Simulation} (
       (linkWith s (record { left = Left.Nobody; line = s .line })
       (tryTransmit (s .line) (s .head .clock) (firstOf s) (spanOf (s .network .delay)) (rateOf (s .network .rate)) (packetBits (s .network) (firstOf s)))))
   stays =
-      transmit-elim k ok (λ (t : Transmitted). OnMoves Good (outcomeWith link (linkWith s (record { left = Left.Nobody; line = s .line }) t)))
+      transmit-elim k (λ (t : Transmitted). OnMoves Good (outcomeWith link (linkWith s (record { left = Left.Nobody; line = s .line }) t)))
       (kept-lists (same adm) (same sts) (same lvs) (same snd) (same cnt) (keep-picked (keep-requeue k link)))
       (refused Left.Nobody (s .line))
       (λ q. kept-lists (same adm) refl (same lvs) (same snd) (same cnt) (keep-picked (keep-requeue q link)))
 
   module _ (e : isDue (s .line) (s .head .clock) (frontOf s) ≡ true) where
+    some : 0 < s .line .«on_line» .count
+    some = due-count (s .line) (s .head .clock) (frontOf s) e
+
+    front-due : Plain (frontOf s .due)
+    front-due = held .due (frontOf s .due) (subst (λ (l : List Transit). List·Memᴰ (frontOf s .due) (map (λ x. x .due) l)) (sym (items-pop (k .line .transit) noTransit some)) (List·Memᴰ·head refl))
+
     gone : Kept (s .network) adm sts (lvs ++ (entryAt (s .head .clock) (frontOf s .packet) ∷ [])) snd cnt (withLine s (departed (s .line)))
-    gone = keep-leave k ok e
+    gone = keep-leave k clock front-due e
 
     -- the first packet leaves, and is lost
     loses : OnMoves Good
@@ -192,13 +191,10 @@ module _ {adm sts lvs snd : List Entry} {cnt : List PacketId} {s : Simulation} (
         (linkWith s (record { left = Left.Lost (frontOf s .packet); line = departed (s .line) })
         (tryTransmit (departed (s .line)) (s .head .clock) (firstOf s) (spanOf (s .network .delay)) (rateOf (s .network .rate)) (packetBits (s .network) (firstOf s)))))
     loses =
-        transmit-elim gone ok (λ (t : Transmitted). OnMoves Good (outcomeWith link (linkWith s (record { left = Left.Lost (frontOf s .packet); line = departed (s .line) }) t)))
+        transmit-elim gone (λ (t : Transmitted). OnMoves Good (outcomeWith link (linkWith s (record { left = Left.Lost (frontOf s .packet); line = departed (s .line) }) t)))
         (kept-lists (same adm) (same sts) refl (same snd) (same cnt) (keep-picked (keep-requeue gone link)))
         (refused (Left.Lost (frontOf s .packet)) (departed (s .line)))
         (λ q. kept-lists (same adm) refl refl (same snd) (same cnt) (keep-picked (keep-requeue q link)))
-
-    some : 0 < s .line .«on_line» .count
-    some = due-count (s .line) (s .head .clock) (frontOf s) e
 
     own : frontOf s .packet .sender < s .network .senders
     own = front-sender s f (k .line .transit) some
@@ -208,7 +204,7 @@ module _ {adm sts lvs snd : List Entry} {cnt : List PacketId} {s : Simulation} (
         ≡ meterAt s (frontOf s .packet .sender) .records + 1
     more =
         ap (λ (x : Metered). x .meter .records)
-        (record-taken (meter-facts s f (frontOf s .packet .sender) own early) (frontOf s .packet .«sent_time») (front-room s f (k .line .transit) some) (some-bits ok) (k .clock .double)
+        (record-taken (meter-facts s f (frontOf s .packet .sender) own early) (frontOf s .packet .«sent_time») (front-room s f (k .line .transit) some) (some-bits ok) (clock .double)
         (front-past s f (k .line .transit) some))
 
     -- a record of a packet that left, from what was kept
@@ -227,7 +223,7 @@ module _ {adm sts lvs snd : List Entry} {cnt : List PacketId} {s : Simulation} (
     comes =
         let p = frontOf s .packet in
         let gone-lists = lvs ++ (entryAt (s .head .clock) p ∷ []) in
-        transmit-elim gone ok (λ (t : Transmitted). OnMoves Good (outcomeWith link (linkWith s (record { left = Left.Out p; line = departed (s .line) }) t)))
+        transmit-elim gone (λ (t : Transmitted). OnMoves Good (outcomeWith link (linkWith s (record { left = Left.Out p; line = departed (s .line) }) t)))
         (let st = requeue (withLine s (departed (s .line))) link in
         let r = recordAt s link Mark.None (named p) Name.None in
         on-picked Good keep-good (deliver r st (returns p))

@@ -10,21 +10,17 @@ use lib.Dec.{T, ltb, eqb, eqb→eq}
 use lib.Ieee.{Float, nan, inf, fin, Format, binary64, prec, emax, low, up, down, odd, units, round, sum, add, lt, le, eq, fits}
 use lib.Ieee.Fits.{add-fits, nan-fits, round-is, and-l}
 use Rattle.quantities.specs.declared.time.Time.{Time}
-use Rattle.quantities.specs.declared.time.OptionTime.{OptionTime}
-use Rattle.quantities.specs.declared.time.OptionTime.the-variants.{None, Some}
 use Rattle.quantities.specs.declared.time_span.TimeSpan.{TimeSpan}
 use Rattle.quantities.specs.Doubles.{zeroF, least, negative}
-use Rattle.quantities.specs.Units.{timeOf, latestOf, earliestOptOf, spanAfter}
+use Rattle.quantities.specs.Units.{timeOf, latestOf, spanAfter}
+use Rattle.quantities.specs.NewTime.{Double}
 use Rattle.quantities.proofs.Order.{eq→same}
+use Rattle.remy.specs.HeldTimes.{Kinds}
 
 -- a double of the format, without a minus sign
 pub record Plain (t : Time) : Type 0 where
-  pub double : T (fits binary64 (t .0 .0))
+  pub double : Double t
   pub sign : negative (t .0 .0) ≡ false
-
-abbrev pub PlainIfAny : OptionTime → Type 0
-PlainIfAny None = Unit {0}
-PlainIfAny (Some t) = Plain t
 
 -- ---- the sign of a rounded value is the sign asked for
 
@@ -105,14 +101,12 @@ plain-latest {t} {u} p (inl q) = by (lt (t .0 .0) (u .0 .0))
     by false = p
 plain-latest {t} {u} p (inr e) = rw (e, not-least (t .0 .0) (p .sign)) p
 
-pub plain-earliest : (a b : OptionTime) → PlainIfAny a → PlainIfAny b → PlainIfAny (earliestOptOf a b)
-plain-earliest None b p q = q
-plain-earliest (Some t) None p q = p
-plain-earliest (Some t) (Some u) p q = by (lt (u .0 .0) (t .0 .0))
-  where
-    by : (b : Bool) → Plain (timeOf (cond b (u .0 .0) (t .0 .0)))
-    by true = q
-    by false = p
-
 pub plain-nan : Plain (timeOf nan)
 plain-nan = record { double = nan-fits binary64; sign = refl }
+
+pub zero-plain : Plain (timeOf zeroF)
+zero-plain = record { double = unfold fits in tt; sign = refl }
+
+-- such times, by kind
+abbrev pub plain : Kinds
+plain = record { free = PlainOrLeast; due = Plain; timer = λ i. Plain; toggle = λ i. Plain; queued = Plain }

@@ -1,16 +1,12 @@
 -- The turns of a sender and of a toggler keep what a simulation keeps, and so does every tick. Assumes nothing.
-use mathlib.Core.Path.{_≡_, refl, subst}
+use mathlib.Core.Path.{_≡_, refl}
 use mathlib.Core.Bool.{Bool, true, false, not, cond}
 use mathlib.Core.List.{List, [], _∷_, _++_}
 use Prim.Native.Nat.{ℕ, _+_, _-_, _/_, _%_, _<_}
-use borrow.Author.Tests.{eqb-true, ltb-true}
+use borrow.Author.Tests.{ltb-true}
 use lib.Dec.{leb, ltb, eqb}
-use lib.ListN.{set}
 use lib.Ieee.{lt}
-use Rattle.quantities.specs.Doubles.{zeroF, power}
-use Rattle.quantities.specs.Units.{spanOf}
-use Rattle.quantities.proofs.Order.{lt→le}
-use Rattle.rand.specs.Draws.{positiveOf}
+use Rattle.quantities.specs.Doubles.{power}
 use Rattle.link.specs.declared.packet.Packet.{Packet}
 use Rattle.link.specs.declared.link.Arrival.{Arrival}
 use Rattle.sender.specs.declared.lossy.Enabled.{Enabled}
@@ -20,30 +16,30 @@ use Rattle.sender.specs.declared.lossy.Sent.{Sent}
 use Rattle.toggler.specs.declared.toggler.Toggler.{Toggler}
 use Rattle.toggler.specs.declared.toggler.Toggled.{Toggled}
 use Rattle.link.specs.Ring.{places}
-use Rattle.quantities.specs.NewTime.{newTime}
 use Rattle.link.specs.Link.{admits, admitted, receiveOf}
 use Rattle.sender.specs.Sender.{windowSent, timerSent, timerDue, tickTimer, notSent, tickSend, enabledOf, disabledOf, sentWith}
-use Rattle.toggler.specs.Toggler.{toggleOf}
+use Rattle.toggler.specs.Toggler.{nextToggle, toggleDraw, toggleOf}
 use Rattle.remy.specs.declared.simulation.Simulation.{Simulation}
 use Rattle.remy.specs.declared.simulation.Mark.the-variants as Mark
 use Rattle.remy.specs.declared.simulation.Name.the-variants as Name
 use Rattle.remy.specs.declared.simulation.TickRecord.{TickRecord}
 use Rattle.remy.specs.State.{Role, link, sender, toggler, nobody, roleOf, senderAt, togglerAt, packetBits, withSender, withToggler}
 use Rattle.remy.specs.Queue.{requeue, picked}
-use Rattle.remy.specs.Tick.{named, recordAt, arrives, Acted, stopped, enabledSender, timerWith, sendWith, senderWith, senderActs, togglerWith, togglerActs, actsOf, arriveWith, switchedSender, switchWith, deliver, pickAgain, outcomeWith, outcomeOf}
+use Rattle.remy.specs.Tick.{named, recordAt, arrives, Acted, enabledSender, timerWith, sendWith, senderWith, senderActs, togglerWith, togglerActs, actsOf, arriveWith, switchedSender, switchWith, deliver, pickAgain, outcomeWith, outcomeOf}
 use Rattle.remy.specs.History.{PacketId, Entry}
+use Rattle.remy.specs.HeldTimes.{Holds}
 use Rattle.remy.proofs.Lines.{entryAt}
-use Rattle.remy.proofs.Plain.{PlainIfAny}
+use Rattle.remy.proofs.Plain.{Plain, plain}
 use Rattle.remy.proofs.Facts.{FitState}
 use Rattle.remy.proofs.Networks.{FitNetwork, few-senders}
-use Rattle.remy.proofs.Kept.{PlainTimer, Kept, kept-lists, keep-sender, keep-toggler, count-sent}
+use Rattle.remy.proofs.Kept.{Kept, kept-lists, keep-sender, keep-toggler, count-sent}
 use Rattle.remy.proofs.Front.{accepted}
 use Rattle.remy.proofs.Steps.{cond-elim, keep-requeue, keep-picked}
-use Rattle.remy.proofs.Parts.{new-plain, sent-plain, timer-plain, draw-positive, keep-arrive, keep-switch}
+use Rattle.remy.proofs.Parts.{keep-arrive, keep-switch}
 use Rattle.remy.proofs.Outcomes.{OnMoves, Grown, same, on-stopped, link-good}
 
 module _ {adm sts lvs snd : List Entry} {cnt : List PacketId} {s : Simulation} (f : FitState s) (early : lt (power 40) (s .head .clock .0 .0) ≡ false)
-    (k : Kept (s .network) adm sts lvs snd cnt s) where
+    (clock : Plain (s .head .clock)) (held : Holds plain s) (k : Kept (s .network) adm sts lvs snd cnt s) where
   abbrev Good : TickRecord → Simulation → Type 0
   Good = Grown (s .network) adm sts lvs snd cnt
 
@@ -60,13 +56,13 @@ module _ {adm sts lvs snd : List Entry} {cnt : List PacketId} {s : Simulation} (
     next = record { sender = i; seq = senderAt s i .«packets_sent» + 1; «sent_time» = s .head .clock }
 
     -- the state after the send, with the sender queued again
-    module _ (e : Enabled) (plain : PlainIfAny (e .timer)) where
+    module _ (e : Enabled) where
       after-send : Simulation
       after-send = requeue (withSender s i (enabledSender (senderAt s i) (senderAt s i .«packets_sent» + 1) e)) (sender i)
 
       sent-kept : Kept (s .network) adm sts lvs (snd ++ (entryAt (s .head .clock) next ∷ [])) cnt after-send
       unfolding after-send next
-      sent-kept = keep-requeue (count-sent k i (enabledSender (senderAt s i) (senderAt s i .«packets_sent» + 1) e) (s .head .clock) h (few-senders ok) refl plain) (sender i)
+      sent-kept = keep-requeue (count-sent k i (enabledSender (senderAt s i) (senderAt s i .«packets_sent» + 1) e) (s .head .clock) h (few-senders ok) refl) (sender i)
 
       -- admitted, dropped full, or refused; the account does not read the record's part
       arrival-good : (part : ℕ) → OnMoves Good (pickAgain (deliver (record { time = s .head .clock; part = part; mark = Mark.None; packet = named next; started = Name.None }) after-send (arrives next)))
@@ -81,37 +77,24 @@ module _ {adm sts lvs snd : List Entry} {cnt : List PacketId} {s : Simulation} (
           (cond (leb places (st .line .waiting .count)) full taken) dropped
           (λ fits. cond-elim (λ (a : Arrival). OnMoves Good (pickAgain (arriveWith r st next a))) (leb places (st .line .waiting .count)) full taken
           (λ none. tt)
-          (λ room. kept-lists refl (same sts) (same lvs) refl (same cnt) (keep-picked (keep-requeue (keep-arrive sent-kept ok next room fits) link))))
+          (λ room. kept-lists refl (same sts) (same lvs) refl (same cnt) (keep-picked (keep-requeue (keep-arrive sent-kept next room fits) link))))
           (λ over. kept-lists (same adm) (same sts) (same lvs) refl (same cnt) (keep-picked (keep-requeue sent-kept link)))
 
     turn-with : (x : SenderState) → senderAt s i .state ≡ x → OnMoves Good (outcomeWith (sender i) (senderWith s i x))
     unfolding tickSend next after-send
     turn-with State.WaitingForEnable q = tt
     turn-with (State.Enabled e) q =
-        let plain : PlainIfAny (e .timer) = subst PlainTimer q (k .timer i) in
         let policy = s .network .policy in
-        let clock = s .head .clock in
+        let now = s .head .clock in
         let sent = senderAt s i .«packets_sent» in
-        let t = tickTimer policy e clock in
-        let set = timerSent policy (e .timer) clock in
-        cond-elim (λ (a : Acted). OnMoves Good (outcomeWith (sender i) a)) (timerDue e clock) (timerWith s i t) (sendWith s i (tickSend sent policy e clock i))
-        (λ due. cond-elim (λ (a : Acted). OnMoves Good (outcomeWith (sender i) a)) (eqb (t .number) 0)
-        _ (stopped s (t .number))
-        (λ z. kept-lists (same adm) (same sts) (same lvs) (same snd) (same cnt)
-        (keep-picked (keep-requeue (keep-sender k i (enabledSender (senderAt s i) sent (t .enabled)) refl (timer-plain policy e clock (ok .policy) (k .clock) (eqb-true (t .number) 0 z))) (sender i))))
-        (λ z. on-stopped Good (sender i) s (t .number) z))
-        (λ due. cond-elim (λ (a : Sent). OnMoves Good (outcomeWith (sender i) (sendWith s i a))) (leb 16777216 sent) (notSent sent e clock i 11) (sentWith sent policy e clock i set)
+        let t = tickTimer policy e now in
+        let timer = timerSent policy (e .timer) now in
+        cond-elim (λ (a : Acted). OnMoves Good (outcomeWith (sender i) a)) (timerDue e now) (timerWith s i t) (sendWith s i (tickSend sent policy e now i))
+        (λ due. kept-lists (same adm) (same sts) (same lvs) (same snd) (same cnt)
+        (keep-picked (keep-requeue (keep-sender k i (enabledSender (senderAt s i) sent t) refl) (sender i))))
+        (λ due. cond-elim (λ (a : Sent). OnMoves Good (outcomeWith (sender i) (sendWith s i a))) (leb 16777216 sent) (notSent sent e now i) (sentWith sent policy e now i)
         (λ spent. tt)
-        (λ room. cond-elim (λ (a : Sent). OnMoves Good (outcomeWith (sender i) (sendWith s i a))) (eqb (set .number) 0)
-        (record {
-          number = 0;
-          packet = next;
-          «packets_sent» = sent + 1;
-          enabled = record { started = e .started; «greatest_ack» = e .«greatest_ack»; cwnd = windowSent policy (e .cwnd); timer = set .timer };
-        })
-        (notSent sent e clock i (set .number))
-        (λ z. arrival-good (record { started = e .started; «greatest_ack» = e .«greatest_ack»; cwnd = windowSent policy (e .cwnd); timer = set .timer }) (sent-plain policy (e .timer) clock (ok .policy) (k .clock) plain) _)
-        (λ z. rw z (on-stopped Good (sender i) s (set .number) z))))
+        (λ room. arrival-good (record { started = e .started; «greatest_ack» = e .«greatest_ack»; cwnd = windowSent policy (e .cwnd); timer = timer }) _))
 
     pub sender-good : OnMoves Good (outcomeOf s (sender i))
     unfolding outcomeOf actsOf senderActs
@@ -125,31 +108,21 @@ module _ {adm sts lvs snd : List Entry} {cnt : List PacketId} {s : Simulation} (
     unfolding enabledOf disabledOf
     switch-good st true q =
         kept-lists (same adm) (same sts) (same lvs) (same snd) (same cnt)
-        (keep-picked (keep-requeue (keep-switch (keep-sender q i (switchedSender st i true) refl tt) i true) (sender i)))
+        (keep-picked (keep-requeue (keep-switch (keep-sender q i (switchedSender st i true) refl) i true) (sender i)))
     switch-good st false q =
         kept-lists (same adm) (same sts) (same lvs) (same snd) (same cnt)
-        (keep-picked (keep-requeue (keep-switch (keep-sender q i (switchedSender st i false) refl tt) i false) (sender i)))
+        (keep-picked (keep-requeue (keep-switch (keep-sender q i (switchedSender st i false) refl) i false) (sender i)))
 
     pub toggler-good : OnMoves Good (outcomeOf s (toggler i))
     unfolding outcomeOf actsOf togglerActs toggleOf deliver
     toggler-good =
         let t = togglerAt s i in
-        let clock = s .head .clock in
-        let d = positiveOf (cond (not (t .enabled)) (s .network .on) (s .network .off)) (t .rng) in
-        let at = newTime clock (spanOf (d .value)) in
-        let changed : Toggler = record { enabled = not (t .enabled); «next_toggle» = at .time; rng = d .rng } in
+        let d = toggleDraw t (s .network .on) (s .network .off) in
+        let changed : Toggler = record { enabled = not (t .enabled); «next_toggle» = nextToggle (s .head .clock) (d .value); rng = d .rng } in
         cond-elim (λ (x : Toggled). OnMoves Good (outcomeWith (toggler i) (togglerWith s i x))) (eqb (d .number) 0)
-        (cond (eqb (at .number) 0) (record { number = 0; toggler = changed }) (record { number = at .number; toggler = t }))
-        (record { number = d .number; toggler = t })
-        (λ drawn. cond-elim (λ (x : Toggled). OnMoves Good (outcomeWith (toggler i) (togglerWith s i x))) (eqb (at .number) 0)
-        (record { number = 0; toggler = changed }) (record { number = at .number; toggler = t })
-        (λ fine. switch-good (requeue (withToggler s i changed) (toggler i)) (not (t .enabled))
-        (keep-requeue
-        (keep-toggler k i changed
-        (new-plain clock (spanOf (d .value)) (k .clock)
-        (lt→le zeroF (d .value) (draw-positive 8 (cond (not (t .enabled)) (s .network .on) (s .network .off)) (t .rng) (eqb-true (d .number) 0 drawn))) (eqb-true (at .number) 0 fine)))
-        (toggler i)))
-        (λ refused. rw refused (on-stopped Good (toggler i) s (at .number) refused)))
+        (record { number = 0; toggler = changed }) (record { number = d .number; toggler = t })
+        (λ drawn. switch-good (requeue (withToggler s i changed) (toggler i)) (not (t .enabled))
+        (keep-requeue (keep-toggler k i changed) (toggler i)))
         (λ spent. rw spent (on-stopped Good (toggler i) s (d .number) spent))
 
   -- ---- every turn
@@ -164,7 +137,7 @@ module _ {adm sts lvs snd : List Entry} {cnt : List PacketId} {s : Simulation} (
       let i = (j - 1) / 2 in
       let there = cond (eqb (j % 2) 1) (sender i) (toggler i) in
       cond-elim (λ (role : Role). OnMoves Good (outcomeOf s role)) (eqb j 0) link (cond (ltb i (s .network .senders)) there nobody)
-      (λ first. link-good f early k)
+      (λ first. link-good f early clock held k)
       (λ other. cond-elim (λ (role : Role). OnMoves Good (outcomeOf s role)) (ltb i (s .network .senders)) there nobody
       (λ inside. cond-elim (λ (role : Role). OnMoves Good (outcomeOf s role)) (eqb (j % 2) 1) (sender i) (toggler i)
       (λ odd. sender-good i (ltb-true i (s .network .senders) inside))

@@ -5,6 +5,8 @@ pub mod Queue
 pub mod Build
 pub mod Fit
 pub mod Tick
+pub mod NewTimes
+pub mod HeldTimes
 pub mod Run
 pub mod History
 pub mod Account

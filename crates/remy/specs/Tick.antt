@@ -1,4 +1,4 @@
--- Document 01, "Tick and history" and the rows 9 to 14 of "Stops": the tick. Definitions only.
+-- Document 01, "Tick and history" and the rows 9 to 13 of "Stops": the tick. Definitions only.
 use Prim.Native.Nat.{ℕ}
 use mathlib.Core.Bool.{Bool, true, false, cond}
 use mathlib.Core.List.{List, [], _∷_}
@@ -20,7 +20,6 @@ use Rattle.sender.specs.declared.lossy.Enabled.{Enabled}
 use Rattle.sender.specs.declared.lossy.SenderState.{SenderState}
 use Rattle.sender.specs.declared.lossy.SenderState.the-variants as State
 use Rattle.sender.specs.declared.lossy.LossySender.{LossySender}
-use Rattle.sender.specs.declared.lossy.TimerTicked.{TimerTicked}
 use Rattle.sender.specs.declared.lossy.Sent.{Sent}
 use Rattle.sender.specs.declared.lossy.Heard.{Heard}
 use Rattle.sender.specs.declared.lossy.Heard.the-variants as Heard
@@ -117,16 +116,14 @@ linkActs s =
 abbrev pub enabledSender : LossySender → ℕ → Enabled → LossySender
 enabledSender x sent e = record { «packets_sent» = sent; state = State.Enabled e; rng = x .rng }
 
-abbrev pub timerWith : Simulation → ℕ → TimerTicked → Acted
-timerWith s i t =
-    cond (eqb (t .number) 0)
-    (record {
+abbrev pub timerWith : Simulation → ℕ → Enabled → Acted
+timerWith s i e =
+    record {
       number = 0;
       note = recordAt s (sender i) Mark.Timer Name.None Name.None;
-      simulation = withSender s i (enabledSender (senderAt s i) (senderAt s i .«packets_sent») (t .enabled));
+      simulation = withSender s i (enabledSender (senderAt s i) (senderAt s i .«packets_sent») e);
       messages = [];
-    })
-    (stopped s (t .number))
+    }
 
 abbrev pub sendWith : Simulation → ℕ → Sent → Acted
 sendWith s i t =
@@ -255,6 +252,6 @@ abbrev pub tickNext : Simulation → Next → Ticked
 tickNext s Next.None = unmoved s 0
 tickNext s (Next.Part k) = cond (lt (power 40) (s .head .clock .0 .0)) (unmoved s 10) (ticked s (outcomeOf s (roleOf (s .network .senders) k)))
 
--- A tick tests 9, then idle, then 10, then runs and stops at the first of 8, 11 to 14 that it meets.
+-- A tick tests 9, then idle, then 10, then runs and stops at the first of 8, 11, 12 and 13 that it meets.
 unfoldable pub tickOf : Simulation → Ticked
 tickOf s = cond (fit s) (tickNext s (s .head .next)) (unmoved s 9)

@@ -1,12 +1,12 @@
 -- Document 01, "Sender", and row 11 of "Stops". Definitions only.
 use Prim.Native.Nat.{ℕ, _+_, _/_, min, max}
 use mathlib.Core.Bool.{Bool, false, cond}
-use lib.Dec.{leb, ltb, eqb}
+use lib.Dec.{leb, ltb}
 use lib.Ieee.{Float, lt, eq}
 use Rattle.quantities.specs.declared.time.Time.{Time}
 use Rattle.quantities.specs.declared.time.OptionTime.{OptionTime}
 use Rattle.quantities.specs.declared.time.OptionTime.the-variants.{None, Some}
-use Rattle.quantities.specs.Units.{spanOf, earliestOptOf}
+use Rattle.quantities.specs.Units.{spanOf, spanAfter, earliestOptOf}
 use Rattle.link.specs.declared.packet.Packet.{Packet}
 use Rattle.sender.specs.declared.lossy.Policy.{Policy}
 use Rattle.sender.specs.declared.lossy.Policy.the-variants.{Held, Grown, Timed}
@@ -14,12 +14,9 @@ use Rattle.sender.specs.declared.lossy.Enabled.{Enabled}
 use Rattle.sender.specs.declared.lossy.SenderState.{SenderState}
 use Rattle.sender.specs.declared.lossy.SenderState.the-variants as State
 use Rattle.sender.specs.declared.lossy.LossySender.{LossySender}
-use Rattle.sender.specs.declared.lossy.TimerTicked.{TimerTicked}
-use Rattle.sender.specs.declared.lossy.TimerSet.{TimerSet}
 use Rattle.sender.specs.declared.lossy.Sent.{Sent}
 use Rattle.sender.specs.declared.lossy.Heard.the-variants.{Ignored, Old, Counted}
 use Rattle.sender.specs.declared.lossy.Returned.{Returned}
-use Rattle.quantities.specs.NewTime.{TimeAnswer, newTime}
 
 -- ---- the policies
 
@@ -41,19 +38,16 @@ windowCounted (Held w) window = w
 windowCounted (Grown first most) window = min (window + 1) most
 windowCounted (Timed most gap) window = min (window + 1) most
 
--- a timer set to clock + gap
-abbrev pub timerFrom : TimeAnswer → TimerSet
-timerFrom a = cond (eqb (a .number) 0) (record { number = 0; timer = Some (a .time) }) (record { number = a .number; timer = None })
-
-unfoldable pub timerIn : Time → Float → TimerSet
-timerIn clock gap = timerFrom (newTime clock (spanOf gap))
+-- the timer: clock + gap
+abbrev pub timerIn : Time → Float → Time
+timerIn clock gap = spanAfter clock (spanOf gap)
 
 -- timed: timer set to clock + gap at its first send, the one that finds no timer held
-unfoldable pub timerSent : Policy → OptionTime → Time → TimerSet
-timerSent (Held w) timer clock = record { number = 0; timer = timer }
-timerSent (Grown first most) timer clock = record { number = 0; timer = timer }
-timerSent (Timed most gap) (Some t) clock = record { number = 0; timer = Some t }
-timerSent (Timed most gap) None clock = timerIn clock gap
+unfoldable pub timerSent : Policy → OptionTime → Time → OptionTime
+timerSent (Held w) timer clock = timer
+timerSent (Grown first most) timer clock = timer
+timerSent (Timed most gap) (Some t) clock = Some t
+timerSent (Timed most gap) None clock = Some (timerIn clock gap)
 
 -- ---- on and off
 
@@ -96,40 +90,35 @@ dueAt (Some t) clock = eq (t .0 .0) (clock .0 .0)
 unfoldable pub timerDue : Enabled → Time → Bool
 timerDue e clock = dueAt (e .timer) clock
 
-abbrev pub timerTickedWith : Enabled → TimerSet → TimerTicked
-timerTickedWith e set =
-    cond (eqb (set .number) 0)
-    (record { number = 0; enabled = record { started = e .started; «greatest_ack» = e .«greatest_ack»; cwnd = max 1 (e .cwnd / 2); timer = set .timer } })
-    (record { number = set .number; enabled = e })
+-- after a timer: another window and another timer
+abbrev pub timerTicked : Enabled → ℕ → OptionTime → Enabled
+timerTicked e window timer = record { started = e .started; «greatest_ack» = e .«greatest_ack»; cwnd = window; timer = timer }
 
 -- At each timer the window halves rounded down, at least 1, and the timer is clock + gap. A sender of another policy holds no timer in a fit state.
-unfoldable pub tickTimer : Policy → Enabled → Time → TimerTicked
-tickTimer (Held w) e clock =
-    record { number = 0; enabled = record { started = e .started; «greatest_ack» = e .«greatest_ack»; cwnd = e .cwnd; timer = None } }
-tickTimer (Grown first most) e clock =
-    record { number = 0; enabled = record { started = e .started; «greatest_ack» = e .«greatest_ack»; cwnd = e .cwnd; timer = None } }
-tickTimer (Timed most gap) e clock = timerTickedWith e (timerIn clock gap)
+unfoldable pub tickTimer : Policy → Enabled → Time → Enabled
+tickTimer (Held w) e clock = timerTicked e (e .cwnd) None
+tickTimer (Grown first most) e clock = timerTicked e (e .cwnd) None
+tickTimer (Timed most gap) e clock = timerTicked e (max 1 (e .cwnd / 2)) (Some (timerIn clock gap))
 
--- a refused send has no packet: sequence 0
-abbrev pub notSent : ℕ → Enabled → Time → ℕ → ℕ → Sent
-notSent sent e clock i n = record { number = n; packet = record { sender = i; seq = 0; «sent_time» = clock }; «packets_sent» = sent; enabled = e }
+-- a refused send (11) has no packet: sequence 0
+abbrev pub notSent : ℕ → Enabled → Time → ℕ → Sent
+notSent sent e clock i = record { number = 11; packet = record { sender = i; seq = 0; «sent_time» = clock }; «packets_sent» = sent; enabled = e }
 
 -- the sender after a send, and its packet
-abbrev pub sentWith : ℕ → Policy → Enabled → Time → ℕ → TimerSet → Sent
-sentWith sent policy e clock i set =
-    cond (eqb (set .number) 0)
-    (record {
+abbrev pub sentWith : ℕ → Policy → Enabled → Time → ℕ → Sent
+sentWith sent policy e clock i =
+    record {
       number = 0;
       packet = record { sender = i; seq = sent + 1; «sent_time» = clock };
       «packets_sent» = sent + 1;
-      enabled = record { started = e .started; «greatest_ack» = e .«greatest_ack»; cwnd = windowSent policy (e .cwnd); timer = set .timer };
-    })
-    (notSent sent e clock i (set .number))
+      enabled =
+          record { started = e .started; «greatest_ack» = e .«greatest_ack»; cwnd = windowSent policy (e .cwnd); timer = timerSent policy (e .timer) clock };
+    }
 
 -- One packet, sequence sent + 1. 11: a sender due to send has sent 2^24.
 unfoldable pub tickSend : ℕ → Policy → Enabled → Time → ℕ → Sent
 tickSend sent policy e clock i =
-    cond (leb 16777216 sent) (notSent sent e clock i 11) (sentWith sent policy e clock i (timerSent policy (e .timer) clock))
+    cond (leb 16777216 sent) (notSent sent e clock i) (sentWith sent policy e clock i)
 
 -- ---- a packet that comes back
 

@@ -10,5 +10,3 @@ pub use lossy::Policy;
 pub use lossy::Returned;
 pub use lossy::SenderState;
 pub use lossy::Sent;
-pub use lossy::TimerSet;
-pub use lossy::TimerTicked;

@@ -2,11 +2,9 @@ ghost use mathlib.Core.Path.{_≡_};
 ghost use Prim.Native.Nat.{_+_, _/_, min, max};
 ghost use Rattle.sender.specs.Sender.{firstWindow, enabledOf, disabledOf, maySend, senderNext, timerDue, windowSent, windowCounted, timerIn, timerSent, tickTimer, tickSend, returnedOf};
 use link::Packet;
-use quantities::NewTime;
 use quantities::OptionTime;
 use quantities::Time;
 use quantities::TimeSpan;
-use quantities::new_time::new_time;
 use quantities::time::earliest_opt;
 use rand::Rng;
 
@@ -37,13 +35,7 @@ pub struct LossySender {
     pub rng: Rng,
 }
 
-// What a timer does: the number (0 or 14), and what the sender then holds.
-pub struct TimerTicked {
-    pub number: u32,
-    pub enabled: Enabled,
-}
-
-// What a send does: the number (0, 11 or 14), the packet, and what the sender then holds.
+// What a send does: the number (0 or 11), the packet, and what the sender then holds.
 pub struct Sent {
     pub number: u32,
     pub packet: Packet,
@@ -61,12 +53,6 @@ pub enum Heard {
 pub struct Returned {
     pub heard: Heard,
     pub sender: LossySender,
-}
-
-// A timer after a send: the number (0 or 14), and the timer.
-pub struct TimerSet {
-    pub number: u32,
-    pub timer: OptionTime,
 }
 
 impl Policy {
@@ -103,36 +89,27 @@ impl Policy {
         }
     }
 
-    // The timer after a send: set by the first send since the sender was switched on.
-    pub(crate) fn timer_sent(self, timer: OptionTime, clock: Time) -> TimerSet
+    // The timer after a send: set by the first send since the sender was switched on. One that is held is
+    // written anew, since a copy of the enum is slower.
+    pub(crate) fn timer_sent(self, timer: OptionTime, clock: Time) -> OptionTime
         ensures { λ r. ⌜ r ≡ timerSent self timer clock ⌝ }
     {
-        match self {
-            Policy::Held(_) => TimerSet { number: 0, timer },
-            Policy::Grown(_, _) => TimerSet { number: 0, timer },
-            Policy::Timed(_, gap) => match timer {
-                OptionTime::Some(_) => TimerSet { number: 0, timer },
-                OptionTime::None => timer_in(clock, gap),
+        match timer {
+            OptionTime::Some(t) => OptionTime::Some(t),
+            OptionTime::None => match self {
+                Policy::Held(_) => OptionTime::None,
+                Policy::Grown(_, _) => OptionTime::None,
+                Policy::Timed(_, gap) => OptionTime::Some(timer_in(clock, gap)),
             },
         }
     }
 }
 
-// A timer that is set to a gap after the clock.
-fn timer_in(clock: Time, gap: f64) -> TimerSet
+// When a timer goes that is set now: a gap after the clock.
+fn timer_in(clock: Time, gap: f64) -> Time
     ensures { λ r. ⌜ r ≡ timerIn clock gap ⌝ }
 {
-    let at = new_time(clock, TimeSpan(gap));
-    match at {
-        NewTime::At(t) => TimerSet {
-            number: 0,
-            timer: OptionTime::Some(t),
-        },
-        NewTime::Refused => TimerSet {
-            number: 14,
-            timer: OptionTime::None,
-        },
-    }
+    clock.add(TimeSpan(gap))
 }
 
 // One more, and at most `most`.
@@ -170,46 +147,32 @@ impl Enabled {
     }
 
     // The timer goes.
-    pub fn tick_timer(self, policy: Policy, clock: Time) -> TimerTicked
+    pub fn tick_timer(self, policy: Policy, clock: Time) -> Enabled
         ensures { λ r. ⌜ r ≡ tickTimer policy self clock ⌝ }
     {
         let started = self.started;
         let greatest_ack = self.greatest_ack;
         match policy {
-            Policy::Held(_) => {
-                let enabled = Enabled {
-                    started,
-                    greatest_ack,
-                    cwnd: self.cwnd,
-                    timer: OptionTime::None,
-                };
-                TimerTicked { number: 0, enabled }
-            }
-            Policy::Grown(_, _) => {
-                let enabled = Enabled {
-                    started,
-                    greatest_ack,
-                    cwnd: self.cwnd,
-                    timer: OptionTime::None,
-                };
-                TimerTicked { number: 0, enabled }
-            }
+            Policy::Held(_) => Enabled {
+                started,
+                greatest_ack,
+                cwnd: self.cwnd,
+                timer: OptionTime::None,
+            },
+            Policy::Grown(_, _) => Enabled {
+                started,
+                greatest_ack,
+                cwnd: self.cwnd,
+                timer: OptionTime::None,
+            },
             Policy::Timed(_, gap) => {
-                let set = timer_in(clock, gap);
-                if set.number != 0 {
-                    return TimerTicked {
-                        number: set.number,
-                        enabled: self,
-                    };
-                }
-                let timer = set.timer;
-                let enabled = Enabled {
+                let at = timer_in(clock, gap);
+                Enabled {
                     started,
                     greatest_ack,
                     cwnd: halved(self.cwnd),
-                    timer,
-                };
-                TimerTicked { number: 0, enabled }
+                    timer: OptionTime::Some(at),
+                }
             }
         }
     }
@@ -232,19 +195,10 @@ impl Enabled {
             };
         }
         let held = self.timer;
-        let set = policy.timer_sent(held, clock);
-        if set.number != 0 {
-            return Sent {
-                number: set.number,
-                packet: none,
-                packets_sent,
-                enabled: self,
-            };
-        }
+        let timer = policy.timer_sent(held, clock);
         let started = self.started;
         let greatest_ack = self.greatest_ack;
         let cwnd = policy.packet_sent(self.cwnd);
-        let timer = set.timer;
         let packet = Packet {
             sender,
             seq: packets_sent + 1,

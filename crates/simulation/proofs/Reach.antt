@@ -2,18 +2,17 @@
 use Prim.Native.Nat.{ℕ, zero, suc, _+_}
 use native.Mathlib.Omega.{arith}
 use mathlib.Core.Path.{_≡_, refl, sym, ap, subst, _∙_}
-use mathlib.Core.Bool.{Bool, true, false, cond, true≢false}
+use mathlib.Core.Bool.{Bool, true, false, cond}
 use mathlib.Core.List.{List, [], _∷_, _++_}
 use Rattle.remy.specs.declared.simulation.Simulation.{Simulation}
 use Rattle.remy.specs.declared.simulation.TickRecord.{TickRecord}
 use Rattle.remy.specs.declared.simulation.Ticked.{Ticked}
 use Rattle.remy.specs.declared.simulation.Ran.{Ran}
-use Rattle.remy.specs.Tick.{Outcome, moves, stops, ticked, tickOf}
+use Rattle.remy.specs.Tick.{tickOf}
 use Rattle.remy.specs.Run.{oneMore, runOf}
 use Rattle.remy.specs.History.{Call, tick, ticks, called, after, history, noted}
 use Rattle.remy.specs.Account.{Account}
-use Rattle.remy.proofs.Account.{demand3}
-use Rattle.advance.proofs.Ticks.{tick-elim}
+use Rattle.remy.proofs.Account.{unmoved-same, demand3}
 use Rattle.simulation.specs.Reached.{TickAccount, RunAccount}
 
 -- ---- calls and histories append
@@ -45,17 +44,6 @@ tick-account s r e n s₀ fresh cs reached =
 
 -- ---- a run
 
--- a tick that does not move returns the state that it was given
-abbrev Still : Simulation → Ticked → Type 0
-Still s t = t .moved ≡ false → t .simulation ≡ s
-
-still : (s : Simulation) → Still s (tickOf s)
-still s = tick-elim (Still s) s of-outcome
-  where
-    of-outcome : (o : Outcome) → Still s (ticked s o)
-    of-outcome (stops k) e = refl
-    of-outcome (moves x m) e = absurd (true≢false e)
-
 run-after : (n : ℕ) (s : Simulation) → after (ticks (runOf n s .done)) s ≡ runOf n s .simulation
 unfolding runOf
 run-after zero s = refl
@@ -68,7 +56,7 @@ run-after (suc n) s = by (tickOf s) (tickOf s .moved) refl refl (λ m. run-after
     by t true e h rest =
         let more : runOf n (t .simulation) .done + 1 ≡ suc (runOf n (t .simulation) .done) = omega arith in
         rw (h, more) (ap (λ (x : Ticked). after (ticks (runOf n (t .simulation) .done)) (x .simulation)) e ∙ rest (t .simulation))
-    by t false e h rest = rw h (sym (subst (Still s) e (still s) h))
+    by t false e h rest = rw h (sym (subst (λ (x : Ticked). x .moved ≡ false → x .simulation ≡ s) e (unmoved-same s) h))
 
 pub run-account : (k : ℕ) (s : Simulation) (r : Ran) → r ≡ runOf k s → RunAccount s r
 run-account k s r e n s₀ fresh cs reached =

@@ -12,10 +12,6 @@ use Rattle.remy.specs.Account.{Account}
 abbrev pub TickAccount : Simulation → Ticked → Type 0
 TickAccount s r = (n : RemyNetwork) (s₀ : Simulation) → Fresh n s₀ → (cs : List Call) → s ≡ after cs s₀ → Account n (history cs s₀ ++ noted r []) (r .simulation)
 
--- this tick is not refused with 14
-abbrev pub Never14 : Ticked → Type 0
-Never14 r = r .number ≡ 14 → ⊥
-
 -- the account after this run: of the history with the ticks that were done, and of the state that it returned
 abbrev pub RunAccount : Simulation → Ran → Type 0
 RunAccount s r = (n : RemyNetwork) (s₀ : Simulation) → Fresh n s₀ → (cs : List Call) → s ≡ after cs s₀ → Account n (history (cs ++ ticks (r .done)) s₀) (r .simulation)

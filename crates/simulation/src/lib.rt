@@ -1,16 +1,18 @@
 // The simulation in code: tick and run, equal to their definitions in remy. Both also say demand 3, the
-// account of packets, for every state that calls reach from a build.
+// account of packets, for every state that calls reach from a build; which numbers they can give; and
+// that the clock cannot go back, in any state that calls reach from the one given.
 ghost use mathlib.Core.Path.{_≡_};
 ghost use Rattle.remy.specs.Tick.{tickOf};
-ghost use Rattle.remy.specs.Run.{runOf};
-ghost use Rattle.simulation.specs.Reached.{TickAccount, Never14, RunAccount};
+ghost use Rattle.remy.specs.Run.{runOf, TickNumber};
+ghost use Rattle.steady.specs.Clock.{NeverBack};
+ghost use Rattle.simulation.specs.Reached.{TickAccount, RunAccount};
 use remy::Ran;
 use remy::Simulation;
 use remy::Ticked;
 
-// One tick: 9, idle, 10, or the turn of the next part. 14 is never met.
+// One tick: 9, idle, 10, or the turn of the next part.
 pub fn tick(simulation: Simulation) -> Ticked
-    ensures { λ r. ⌜ (r ≡ tickOf simulation) × TickAccount simulation r × Never14 r ⌝ }
+    ensures { λ r. ⌜ (r ≡ tickOf simulation) × TickAccount simulation r × TickNumber (r .number) × NeverBack simulation ⌝ }
 {
     let a = advance::advance(simulation, 1);
     let note = a.note;
@@ -25,7 +27,7 @@ pub fn tick(simulation: Simulation) -> Ticked
 
 // Ticks until n are done, idle or refused.
 pub fn run(simulation: Simulation, n: u32) -> Ran
-    ensures { λ r. ⌜ (r ≡ runOf n simulation) × RunAccount simulation r ⌝ }
+    ensures { λ r. ⌜ (r ≡ runOf n simulation) × RunAccount simulation r × TickNumber (r .number) × NeverBack simulation ⌝ }
 {
     let a = advance::advance(simulation, n);
     let last = a.simulation;

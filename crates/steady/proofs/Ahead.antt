@@ -12,17 +12,16 @@ use Rattle.quantities.specs.Units.{latestOf, earliestOf, earliestOptOf}
 use Rattle.quantities.proofs.Order.{le-known-l, le-refl, le-trans, le-antisym, eq-refl, eq-trans, eq→le, eq→ge, later-left, later-least, earlier-left, earlier-right, earlier-most}
 use Rattle.remy.specs.declared.simulation.Simulation.{Simulation}
 use Rattle.remy.specs.Fit.{held, heldQueued, sameTime}
+use Rattle.remy.specs.HeldTimes.{IfAny}
 use Rattle.remy.proofs.Facts.{both-l, both-r, both-i, holds}
 use Rattle.steady.proofs.Facts.{NotAfter, Held}
 
 abbrev pub HeldIfAny : OptionTime → Type 0
-HeldIfAny None = Unit {0}
-HeldIfAny (Some t) = Held t
+HeldIfAny x = IfAny Held x
 
 -- not before t
 abbrev pub FromIfAny : Time → OptionTime → Type 0
-FromIfAny t None = Unit {0}
-FromIfAny t (Some u) = NotAfter t u
+FromIfAny t x = IfAny (NotAfter t) x
 
 -- held, from the clock on
 pub record Ahead (clock : Time) (x : OptionTime) : Type 0 where

@@ -30,7 +30,8 @@ use Rattle.remy.proofs.Facts.{both-i, range-i}
 use Rattle.remy.proofs.Fresh.{or-else, upTo-intro, fit-intro}
 use Rattle.steady.specs.Steady.{dueSoon, steady}
 use Rattle.steady.proofs.Facts.{Past, PastIfAny, PacketOk, TransitOk, TimerIfAny, StateOk, PartOk, sentOf, Body, Between}
-use Rattle.steady.proofs.Lists.{all-map, all-mapped, all-every}
+use Rattle.remy.proofs.Lists.{all-map, all-mapped}
+use Rattle.steady.proofs.Lists.{all-every}
 
 beq-self : (a : Bool) → Bool·beq a a ≡ true
 beq-self true = refl

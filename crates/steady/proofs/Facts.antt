@@ -7,7 +7,7 @@ use lib.Dec.{T}
 use lib.Ieee.{Float, le}
 use Rattle.quantities.specs.declared.time.Time.{Time}
 use Rattle.quantities.specs.declared.time.OptionTime.{OptionTime}
-use Rattle.quantities.specs.declared.time.OptionTime.the-variants.{None, Some}
+use Rattle.quantities.specs.declared.time.OptionTime.the-variants.{Some}
 use Rattle.quantities.specs.Doubles.{zeroF, power}
 use Rattle.quantities.specs.Units.{spanOf, spanAfter}
 use Rattle.meters.specs.declared.meter.AverageFlowMeter.{AverageFlowMeter}
@@ -31,8 +31,8 @@ use Rattle.remy.specs.Network.{windowFit, networkStop}
 use Rattle.remy.specs.State.{noPacket, noTransit, senderAt, togglerAt, meterAt, queuedAt, waitingItems, onLinePackets, packetBits, totalBits}
 use Rattle.remy.specs.Queue.{nextTimeOf}
 use Rattle.remy.specs.Fit.{isTimed, senderOn, sameTime, heldQueued, countOf, rising}
-use Rattle.remy.proofs.Fresh.{All}
-use Rattle.steady.specs.Steady.{Full}
+use Rattle.remy.proofs.Lists.{All}
+use Rattle.remy.specs.HeldTimes.{Full, IfAny}
 
 -- two moments in order
 abbrev pub NotAfter : Time → Time → Type 0
@@ -48,8 +48,7 @@ pub record Past (clock t : Time) : Type 0 where
   pub high : NotAfter t clock
 
 abbrev pub PastIfAny : Time → OptionTime → Type 0
-PastIfAny clock None = Unit {0}
-PastIfAny clock (Some t) = Past clock t
+PastIfAny clock x = IfAny (Past clock) x
 
 -- ---- the line
 
@@ -85,8 +84,7 @@ pub record TimerOk (policy : Policy) (clock t : Time) : Type 0 where
   pub ahead : NotAfter clock t
 
 abbrev pub TimerIfAny : Policy → Time → OptionTime → Type 0
-TimerIfAny policy clock None = Unit {0}
-TimerIfAny policy clock (Some t) = TimerOk policy clock t
+TimerIfAny policy clock x = IfAny (TimerOk policy clock) x
 
 pub record EnabledOk (policy : Policy) (clock : Time) (e : Enabled) : Type 0 where
   pub started : Past clock (e .started)

@@ -11,9 +11,8 @@ pub mod Stores
 pub mod Senders
 pub mod Meters
 pub mod PartSteps
-pub mod Full
 pub mod Requeue
 pub mod Pick
 pub mod Turns
+pub mod Clock
 pub mod Steady
-pub mod Never

@@ -10,30 +10,25 @@ use lib.Dec.{leb, eqb}
 use lib.ListN.{set}
 use lib.Ieee.{le}
 use lib.Ieee.Bits.{is-true}
-use Rattle.quantities.specs.Doubles.{power}
-use Rattle.quantities.specs.Units.{spanOf, rateOf, amountOf, amountOverRate, spanAfter}
+use Rattle.quantities.specs.Units.{spanOf, rateOf, amountOverRate, spanAfter}
 use Rattle.quantities.proofs.Order.{le-known-r, le-refl}
-use Rattle.quantities.proofs.Ranges.{within, test→within, sending}
 use Rattle.link.specs.declared.packet.Packet.{Packet}
 use Rattle.link.specs.declared.packet.Transit.{Transit}
 use Rattle.link.specs.declared.link.Line.{Line}
 use Rattle.link.specs.Ring.{places, placeAfter, popped, items}
-use Rattle.quantities.specs.NewTime.{newTime}
 use Rattle.link.specs.Link.{admitted, departed, isDue, isFree, startedLine}
 use Rattle.link.proofs.Items.{items-push, items-pop, push-sound, pop-sound}
 use Rattle.link.proofs.Limits.{due-count, free-count}
-use Rattle.remy.specs.declared.network.RemyNetwork.{RemyNetwork}
 use Rattle.remy.specs.declared.simulation.Simulation.{Simulation}
 use Rattle.remy.specs.State.{noPacket, noTransit, senderAt, meterAt, firstOf, frontOf, waitingItems, onLineItems, onLinePackets, packetBits, totalBits, withLine, withWaiting, withOnLine}
 use Rattle.remy.specs.Fit.{countOf, rising}
-use Rattle.remy.proofs.Lists.{map-append, bits-append}
-use Rattle.remy.proofs.Facts.{both-l, both-r, both-i, range-low, range-high}
-use Rattle.remy.proofs.Networks.{FitNetwork, fit-network, some-bits, few-bits, sending-from-zero}
+use Rattle.remy.proofs.Lists.{map-append, bits-append, All, all-append, all-map}
+use Rattle.remy.proofs.Facts.{both-l, both-r, both-i}
+use Rattle.remy.proofs.Networks.{FitNetwork, fit-network, delay-within, sending-within}
 use Rattle.remy.proofs.Steps.{cond-elim}
-use Rattle.remy.proofs.Fresh.{All}
 use Rattle.steady.proofs.Facts.{NotAfter, PacketOk, TransitOk, LineOk, sentOf, Body, Loose}
-use Rattle.steady.proofs.Lists.{all-append, all-map, count-append}
-use Rattle.steady.proofs.Times.{Early, short, new-held, new-ahead}
+use Rattle.steady.proofs.Lists.{count-append}
+use Rattle.steady.proofs.Times.{Early, new-held, new-ahead}
 
 -- ---- lists with one member more at the end
 
@@ -50,18 +45,6 @@ rising-end y (x ∷ []) e a = both-i (le (x .due .0 .0) (y .due .0 .0)) true (is
 rising-end y (x ∷ (z ∷ zs)) e a =
     both-i (le (x .due .0 .0) (z .due .0 .0)) (rising ((z ∷ zs) ++ (y ∷ []))) (both-l (le (x .due .0 .0) (z .due .0 .0)) (rising (z ∷ zs)) e)
     (rising-end y (z ∷ zs) (both-r (le (x .due .0 .0) (z .due .0 .0)) (rising (z ∷ zs)) e) (a .1))
-
--- ---- the spans to a due time and to the next start
-
-module _ {n : RemyNetwork} (f : FitNetwork n) where
-  pub delay-within : within (n .delay) (power 24)
-  delay-within = short (n .delay) (test→within (power 20) (n .delay) (f .delay))
-
-  pub sending-within : within (amountOverRate (amountOf (n .bits)) (rateOf (n .rate)) .0) (power 24)
-  sending-within = (
-    sending-from-zero f,
-    sending (n .bits) (n .rate) (some-bits f) (few-bits f) (range-low (power 0) (power 50) (n .rate) (f .rate)) (range-high (power 0) (power 50) (n .rate) (f .rate)) .2,
-  )
 
 -- ---- the steps
 
@@ -134,8 +117,7 @@ module _ (s : Simulation) (b : Body s) where
         record { packet = ok; room = omega (arith, b .records (p .sender) (ok .own), counted) }
 
   -- ---- the first packet that waits starts
-  module _ (early : Early (s .head .clock)) (e : isFree (s .line) (s .head .clock) ≡ true) (room : leb places (s .line .«on_line» .count) ≡ false)
-      (due : newTime (s .head .clock) (spanOf (s .network .delay)) .number ≡ 0) where
+  module _ (early : Early (s .head .clock)) (e : isFree (s .line) (s .head .clock) ≡ true) (room : leb places (s .line .«on_line» .count) ≡ false) where
     ok : FitNetwork (s .network)
     ok = fit-network (s .network) (b .network)
 
@@ -157,7 +139,7 @@ module _ (s : Simulation) (b : Body s) where
 
     begun-ok : TransitOk (s .network .senders) (sentOf s) (s .head .clock) (s .network .delay) (begun s)
     begun-ok =
-        let ahead : NotAfter (s .head .clock) (begun s .due) = new-ahead (s .head .clock) (spanOf (s .network .delay)) due in
+        let ahead : NotAfter (s .head .clock) (begun s .due) = new-ahead (s .head .clock) (spanOf (s .network .delay)) early (delay-within ok) in
         record {
           packet = waiting-now .0;
           held = new-held (s .head .clock) (spanOf (s .network .delay)) early (delay-within ok);

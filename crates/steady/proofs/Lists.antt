@@ -1,40 +1,19 @@
 -- Facts of every member of a list, and counts. Assumes nothing.
 use mathlib.Core.Path.{_≡_, refl, sym, ap, _∙_}
 use mathlib.Core.Bool.{Bool, true, cond}
-use mathlib.Core.List.{List, [], _∷_, _++_, map}
+use mathlib.Core.List.{List, [], _∷_, _++_}
 use Prim.Native.Nat.{ℕ, _+_}
 use native.Mathlib.Nat.{add-assoc, zero-add}
 use lib.Dec.{eqb}
 use Rattle.link.specs.declared.packet.Packet.{Packet}
 use Rattle.remy.specs.Fit.{every, countOf}
 use Rattle.remy.proofs.Facts.{both-l, both-r, both-i}
-use Rattle.remy.proofs.Fresh.{All}
-
-module _ {A : Type 0} (P : A → Type 0) where
-  pub all-first : (x : A) (xs : List A) → All P (x ∷ xs) → P x
-  all-first x xs a = a .0
-
-  pub all-append : (xs ys : List A) → All P xs → All P ys → All P (xs ++ ys)
-  all-append [] ys a b = b
-  all-append (x ∷ xs) ys a b = (a .0, all-append xs ys (a .1) b)
-
-pub all-map : {A : Type 0} (P Q : A → Type 0) → ((x : A) → P x → Q x) → (xs : List A) → All P xs → All Q xs
-all-map P Q f [] a = tt
-all-map P Q f (x ∷ xs) a = (f x (a .0), all-map P Q f xs (a .1))
+use Rattle.remy.proofs.Lists.{All}
 
 -- what two facts of each member give
 pub all-with : {A : Type 0} (P Q R : A → Type 0) → ((x : A) → P x → Q x → R x) → (xs : List A) → All P xs → All Q xs → All R xs
 all-with P Q R f [] a b = tt
 all-with P Q R f (x ∷ xs) a b = (f x (a .0) (b .0), all-with P Q R f xs (a .1) (b .1))
-
--- of the members' images
-pub all-mapped : {A B : Type 0} (P : B → Type 0) (f : A → B) (xs : List A) → All (λ x. P (f x)) xs → All P (map f xs)
-all-mapped P f [] a = tt
-all-mapped P f (x ∷ xs) a = (a .0, all-mapped P f xs (a .1))
-
-pub all-unmapped : {A B : Type 0} (P : B → Type 0) (f : A → B) (xs : List A) → All P (map f xs) → All (λ x. P (f x)) xs
-all-unmapped P f [] a = tt
-all-unmapped P f (x ∷ xs) a = (a .0, all-unmapped P f xs (a .1))
 
 -- a test of every member
 pub every-all : {A : Type 0} (f : A → Bool) (xs : List A) → every f xs ≡ true → All (λ x. f x ≡ true) xs

@@ -20,27 +20,29 @@ use Rattle.link.specs.declared.packet.Transit.{Transit}
 use Rattle.sender.specs.declared.lossy.Policy.{Policy}
 use Rattle.sender.specs.declared.lossy.SenderState.{SenderState}
 use Rattle.sender.specs.declared.lossy.SenderState.the-variants as State
-use Rattle.link.specs.Ring.{places, items, popped}
+use Rattle.link.specs.Ring.{items, popped}
 use Rattle.toggler.specs.Queue.{queuePlaces}
 use Rattle.link.specs.Link.{nextTransmit, nextDeliver, nextTick}
 use Rattle.sender.specs.Sender.{maySend, nextSend, stateNext, senderNext}
-use Rattle.link.proofs.Items.{Sound, items-empty, items-pop}
+use Rattle.link.proofs.Items.{items-empty, items-pop}
 use Rattle.remy.specs.declared.simulation.Next.{Next}
 use Rattle.remy.specs.declared.simulation.Next.the-variants as Next
 use Rattle.remy.specs.declared.simulation.Simulation.{Simulation}
 use Rattle.remy.specs.Network.{between, networkStop}
 use Rattle.remy.specs.State.{Role, link, sender, toggler, roleOf, noTransit, senderAt, togglerAt, meterAt, queuedAt, frontOf, waitingItems, onLineItems, onLinePackets, packetBits, totalBits}
 use Rattle.remy.specs.Queue.{ownTime, nextTimeOf, partOf}
-use Rattle.remy.specs.Fit.{every, upTo, eachSender, packetFit, held, heldIfAny, isIdle, heldSender, heldQueued, isNext, sinceStart, startedFit, meterStartFit, countOf, rising, ackFit, heldWindowFit, isTimed, timerFit, senderOn, sameTime, nextFit, networkFit, ringsFit, packetsFit, bitsFit, clockFit, totalsFit, sumsFit, recordsFit, dueFit, countsFit, windowsFit, timersFit, togglersAgree, metersAgree, meterBitsFit, queueFit, fit}
+use Rattle.remy.specs.Fit.{every, upTo, eachSender, packetFit, held, heldIfAny, isIdle, heldSender, heldQueued, isNext, sinceStart, startedFit, meterStartFit, countOf, rising, ackFit, heldWindowFit, isTimed, timerFit, senderOn, sameTime, nextFit, networkFit, packetsFit, bitsFit, clockFit, totalsFit, sumsFit, recordsFit, dueFit, countsFit, windowsFit, timersFit, togglersAgree, metersAgree, meterBitsFit, queueFit, fit}
 use Rattle.remy.proofs.Facts.{both-l, both-r, holds, range-low, range-high, between-low, between-high, upTo-at, FitState, fit-state}
 use Rattle.remy.proofs.Networks.{fit-network, few-senders}
 use Rattle.remy.proofs.Steps.{cond-elim}
 use Rattle.remy.proofs.Roles.{Real, role-of, part-inside}
-use Rattle.remy.proofs.Fresh.{All}
-use Rattle.steady.specs.Steady.{dueSoon, steady, Full}
+use Rattle.remy.proofs.Lists.{All, all-unmapped}
+use Rattle.remy.proofs.Front.{rings}
+use Rattle.remy.specs.HeldTimes.{Full}
+use Rattle.steady.specs.Steady.{dueSoon, steady}
 use Rattle.steady.proofs.Facts.{NotAfter, Held, Past, PastIfAny, PacketOk, TransitOk, LineOk, TimerIfAny, StateOk, MeterOk, PartOk, sentOf, Body, QueueBut, Between}
 use Rattle.steady.proofs.Clauses.{HeldTimes, held-times, PastTimes, past-times}
-use Rattle.steady.proofs.Lists.{all-with, every-all, all-unmapped}
+use Rattle.steady.proofs.Lists.{all-with, every-all}
 use Rattle.steady.proofs.Ahead.{HeldIfAny, FromIfAny, ahead-now, ahead-latest, queued-ahead, from-same, from-right}
 
 -- ---- tests
@@ -72,17 +74,9 @@ ahead-rising clock x (y ∷ ys) e a =
           (le-trans (clock .0 .0) (x .due .0 .0) (y .due .0 .0) a (holds step (both-l step (rising (y ∷ ys)) e))),
     )
 
--- ---- a steady state in which part j is next
+-- ---- a fit state in which part j is next
 
-module _ (s : Simulation) (j : ℕ) (all : steady s ≡ true) (full : Full s) (next : s .head .next ≡ Next.Part j) where
-  fits : FitState s
-  unfolding steady
-  fits = fit-state s (both-l (fit s) (every (dueSoon s) (onLineItems s)) all)
-
-  soon : every (dueSoon s) (onLineItems s) ≡ true
-  unfolding steady
-  soon = both-r (fit s) (every (dueSoon s) (onLineItems s)) all
-
+module _ (s : Simulation) (j : ℕ) (fits : FitState s) (full : Full s) (next : s .head .next ≡ Next.Part j) where
   helds : HeldTimes s
   helds = held-times s (fits .held)
 
@@ -96,17 +90,17 @@ module _ (s : Simulation) (j : ℕ) (all : steady s ≡ true) (full : Full s) (n
   few : s .network .senders ≤ 16
   few = few-senders (fit-network (s .network) accepted)
 
-  clock-held : Held (s .head .clock)
+  pub clock-held : Held (s .head .clock)
   clock-held =
       holds (held (s .head .clock))
       (or-first (held (s .head .clock)) (isIdle (s .head .next) && eq (s .head .clock .0 .0) largest) (ap (λ (n : Next). isIdle n && eq (s .head .clock .0 .0) largest) next) (helds .clock))
 
-  free-held : Held (s .line .«earliest_transmit»)
+  pub free-held : Held (s .line .«earliest_transmit»)
   free-held = holds (held (s .line .«earliest_transmit»)) (helds .free)
 
   -- ---- the queue
 
-  queued-held : (k : ℕ) → k < queuePlaces → heldQueued s (queuedAt s k) ≡ true
+  pub queued-held : (k : ℕ) → k < queuePlaces → heldQueued s (queuedAt s k) ≡ true
   queued-held = upTo-at queuePlaces (λ k. heldQueued s (queuedAt s k)) (helds .queue)
 
   own-next : sameTime (Some (s .head .clock)) (nextTimeOf s j) ≡ true
@@ -144,26 +138,6 @@ module _ (s : Simulation) (j : ℕ) (all : steady s ≡ true) (full : Full s) (n
 
   -- ---- the line
 
-  rings : Sound (s .waiting) (s .line .waiting) × Sound (s .«on_line») (s .line .«on_line»)
-  unfolding ringsFit
-  rings =
-      let w = s .line .waiting in
-      let m = s .line .«on_line» in
-      let counts = leb (w .count) places && leb (m .count) places in
-      let by-start = both-l (counts && ltb (w .start) places) (ltb (m .start) places) (fits .rings) in
-      let by-counts = both-l counts (ltb (w .start) places) by-start in (
-        record {
-          full = full .waiting;
-          start = ltb-true (w .start) places (both-r counts (ltb (w .start) places) by-start);
-          count = leb-true (w .count) places (both-l (leb (w .count) places) (leb (m .count) places) by-counts);
-        },
-        record {
-          full = full .moving;
-          start = ltb-true (m .start) places (both-r (counts && ltb (w .start) places) (ltb (m .start) places) (fits .rings));
-          count = leb-true (m .count) places (both-r (leb (w .count) places) (leb (m .count) places) by-counts);
-        },
-      )
-
   rises : rising (onLineItems s) ≡ true
   unfolding dueFit
   rises = fits .due
@@ -184,7 +158,7 @@ module _ (s : Simulation) (j : ℕ) (all : steady s ≡ true) (full : Full s) (n
   dues-held : All (λ x. held (x .due) ≡ true) (onLineItems s)
   dues-held = every-all (λ x. held (x .due)) (onLineItems s) (helds .dues)
 
-  dues-ahead : All (λ x. NotAfter (s .head .clock) (x .due)) (onLineItems s)
+  pub dues-ahead : All (λ x. NotAfter (s .head .clock) (x .due)) (onLineItems s)
   dues-ahead = elim (ℕ-discrete (s .line .«on_line» .count) 0) [
     | yes none ↦ subst (All (λ x. NotAfter (s .head .clock) (x .due))) (sym (items-empty noTransit (s .«on_line») (s .line .«on_line») none)) tt
     | no some ↦ ahead-first (omega arith)
@@ -193,7 +167,7 @@ module _ (s : Simulation) (j : ℕ) (all : steady s ≡ true) (full : Full s) (n
       ahead-first : 0 < s .line .«on_line» .count → All (λ x. NotAfter (s .head .clock) (x .due)) (onLineItems s)
       ahead-first some =
           let rest = items noTransit (s .«on_line») (popped (s .line .«on_line»)) in
-          let split : onLineItems s ≡ frontOf s ∷ rest = items-pop (rings .1) noTransit some in
+          let split : onLineItems s ≡ frontOf s ∷ rest = items-pop (rings s fits full .1) noTransit some in
           subst (All (λ x. NotAfter (s .head .clock) (x .due))) (sym split)
           (ahead-rising (s .head .clock) (frontOf s) rest (subst (λ (l : List Transit). rising l ≡ true) split rises)
           (front-ahead some (holds (held (frontOf s .due)) (subst (All (λ x. held (x .due) ≡ true)) split dues-held .0))))
@@ -219,32 +193,6 @@ module _ (s : Simulation) (j : ℕ) (all : steady s ≡ true) (full : Full s) (n
   packets-of ps e t =
       all-with (λ p. packetFit s p ≡ true) (λ p. sinceStart s (p .«sent_time») ≡ true) (PacketOk (s .network .senders) (sentOf s) (s .head .clock)) packet-of ps
       (every-all (packetFit s) ps e) (every-all (λ p. sinceStart s (p .«sent_time»)) ps t)
-
-  line-ok : LineOk (s .network) (sentOf s) (s .head .clock) (s .line) (s .waiting) (s .«on_line»)
-  unfolding packetsFit bitsFit
-  line-ok =
-      let clock = s .head .clock in
-      let xs = onLineItems s in
-      let Good : Packet → Type 0 = PacketOk (s .network .senders) (sentOf s) clock in
-      let packets = every (packetFit s) (waitingItems s) in
-      let moving-packets = every (packetFit s) (onLinePackets s) in
-      let Due : Transit → Type 0 = λ x. (held (x .due) ≡ true) × NotAfter clock (x .due) in
-      let Sent : Transit → Type 0 = λ x. Good (x .packet) × (dueSoon s x ≡ true) in
-      record {
-        waits = rings .0;
-        moves = rings .1;
-        bits = eqb-true (s .line .«buffer_contains» .0) (totalBits (λ p. packetBits (s .network) p .0) (waitingItems s)) (fits .bits);
-        waiting-ok = packets-of (waitingItems s) (both-l packets moving-packets (fits .packets)) (pasts .waiting);
-        moving-ok =
-            all-with Due Sent (TransitOk (s .network .senders) (sentOf s) clock (s .network .delay))
-            (λ x d p. record { packet = p .0; held = holds (held (x .due)) (d .0); ahead = d .1; soon = holds (dueSoon s x) (p .1) }) xs
-            (all-with (λ x. held (x .due) ≡ true) (λ x. NotAfter clock (x .due)) Due (λ x h a. (h, a)) xs dues-held dues-ahead)
-            (all-with (λ x. Good (x .packet)) (λ x. dueSoon s x ≡ true) Sent (λ x p d. (p, d)) xs
-            (all-unmapped Good (λ x. x .packet) xs (packets-of (onLinePackets s) (both-r packets moving-packets (fits .packets)) (pasts .moving)))
-            (every-all (dueSoon s) xs soon));
-        order = rises;
-        free = free-held;
-      }
 
   -- ---- a sender with its toggler and meter
 
@@ -280,7 +228,7 @@ module _ (s : Simulation) (j : ℕ) (all : steady s ≡ true) (full : Full s) (n
     unfolding ownTime senderNext
     sender-ahead = role-ahead (sender i) h
 
-    toggle-ahead : NotAfter (s .head .clock) (togglerAt s i .«next_toggle»)
+    pub toggle-ahead : NotAfter (s .head .clock) (togglerAt s i .«next_toggle»)
     unfolding ownTime
     toggle-ahead = role-ahead (toggler i) h
 
@@ -296,7 +244,7 @@ module _ (s : Simulation) (j : ℕ) (all : steady s ≡ true) (full : Full s) (n
               (at (λ k. eqb (meterAt s k .total .0) (meterAt s k .records * s .network .bits)) (fits .meter-bits));
         }
 
-    part-ok : PartOk (s .network) (s .head .clock) (senderAt s i) (togglerAt s i) (meterAt s i)
+    pub part-ok : PartOk (s .network) (s .head .clock) (senderAt s i) (togglerAt s i) (meterAt s i)
     unfolding countsFit windowsFit timersFit togglersAgree metersAgree
     part-ok =
         let few-sent = leb (senderAt s i .«packets_sent») 16777216 in
@@ -330,27 +278,53 @@ module _ (s : Simulation) (j : ℕ) (all : steady s ≡ true) (full : Full s) (n
         leb-true (meterAt s i .records + countOf i (waitingItems s) + countOf i (onLinePackets s)) (senderAt s i .«packets_sent»)
         (at (λ k. leb (meterAt s k .records + countOf k (waitingItems s) + countOf k (onLinePackets s)) (senderAt s k .«packets_sent»)) (fits .records))
 
-  -- ---- the whole state
+  -- ---- the whole state, where it is steady
 
-  body : Body s
-  unfolding clockFit
-  body =
-      record {
-        full = full;
-        network = accepted;
-        clock = holds (le zeroF (s .head .clock .0 .0)) (fits .clock);
-        held = clock-held;
-        line = line-ok;
-        parts = part-ok;
-        records = records-ok;
-      }
+  module _ (soon : every (dueSoon s) (onLineItems s) ≡ true) where
+    line-ok : LineOk (s .network) (sentOf s) (s .head .clock) (s .line) (s .waiting) (s .«on_line»)
+    unfolding packetsFit bitsFit
+    line-ok =
+        let clock = s .head .clock in
+        let xs = onLineItems s in
+        let Good : Packet → Type 0 = PacketOk (s .network .senders) (sentOf s) clock in
+        let packets = every (packetFit s) (waitingItems s) in
+        let moving-packets = every (packetFit s) (onLinePackets s) in
+        let Due : Transit → Type 0 = λ x. (held (x .due) ≡ true) × NotAfter clock (x .due) in
+        let Sent : Transit → Type 0 = λ x. Good (x .packet) × (dueSoon s x ≡ true) in
+        record {
+          waits = rings s fits full .0;
+          moves = rings s fits full .1;
+          bits = eqb-true (s .line .«buffer_contains» .0) (totalBits (λ p. packetBits (s .network) p .0) (waitingItems s)) (fits .bits);
+          waiting-ok = packets-of (waitingItems s) (both-l packets moving-packets (fits .packets)) (pasts .waiting);
+          moving-ok =
+              all-with Due Sent (TransitOk (s .network .senders) (sentOf s) clock (s .network .delay))
+              (λ x d p. record { packet = p .0; held = holds (held (x .due)) (d .0); ahead = d .1; soon = holds (dueSoon s x) (p .1) }) xs
+              (all-with (λ x. held (x .due) ≡ true) (λ x. NotAfter clock (x .due)) Due (λ x h a. (h, a)) xs dues-held dues-ahead)
+              (all-with (λ x. Good (x .packet)) (λ x. dueSoon s x ≡ true) Sent (λ x p d. (p, d)) xs
+              (all-unmapped Good (λ x. x .packet) xs (packets-of (onLinePackets s) (both-r packets moving-packets (fits .packets)) (pasts .moving)))
+              (every-all (dueSoon s) xs soon));
+          order = rises;
+          free = free-held;
+        }
+
+    body : Body s
+    unfolding clockFit
+    body =
+        record {
+          full = full;
+          network = accepted;
+          clock = holds (le zeroF (s .head .clock .0 .0)) (fits .clock);
+          held = clock-held;
+          line = line-ok;
+          parts = part-ok;
+          records = records-ok;
+        }
+
+    between-ticks : Between j s
+    between-ticks = record { body = body; next = next; own = own-next; place = queued-held j; queue = others }
 
 pub opened : (s : Simulation) (j : ℕ) → steady s ≡ true → Full s → s .head .next ≡ Next.Part j → Between j s
+unfolding steady
 opened s j e full next =
-    record {
-      body = body s j e full next;
-      next = next;
-      own = own-next s j e full next;
-      place = queued-held s j e full next j;
-      queue = others s j e full next;
-    }
+    let soon = every (dueSoon s) (onLineItems s) in
+    between-ticks s j (fit-state s (both-l (fit s) soon e)) full next (both-r (fit s) soon e)

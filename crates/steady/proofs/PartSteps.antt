@@ -4,13 +4,12 @@ use mathlib.Core.Bool.{Bool, true, false, not, cond}
 use Prim.Native.Nat.{ℕ, _+_, _≤_, _<_}
 use native.Mathlib.Nat.{le-of-eq}
 use native.Mathlib.Omega.{arith}
-use borrow.Author.Tests.{eqb-true, eqb-false}
+use borrow.Author.Tests.{eqb-false}
 use lib.Dec.{eqb}
 use lib.Ieee.{lt}
 use Rattle.quantities.specs.declared.time.Time.{Time}
 use Rattle.quantities.specs.Units.{spanOf, since}
 use Rattle.rand.specs.declared.distribution.ContinuousDistribution.{ContinuousDistribution}
-use Rattle.rand.specs.Draws.{positiveOf}
 use Rattle.meters.specs.Meter.{isOn, switchedOf, recordedOf}
 use Rattle.link.specs.declared.packet.Packet.{Packet}
 use Rattle.sender.specs.declared.lossy.Enabled.{Enabled}
@@ -21,22 +20,20 @@ use Rattle.sender.specs.declared.lossy.LossySender.{LossySender}
 use Rattle.sender.specs.declared.lossy.Returned.{Returned}
 use Rattle.toggler.specs.declared.toggler.Toggler.{Toggler}
 use Rattle.toggler.specs.declared.toggler.Toggled.{Toggled}
-use Rattle.quantities.specs.NewTime.{newTime}
 use Rattle.sender.specs.Sender.{withState, tickTimer, tickSend, enabledOf, disabledOf, acked, returnTo, returnedOf}
-use Rattle.toggler.specs.Toggler.{toggleOf}
+use Rattle.toggler.specs.Toggler.{nextToggle, toggleDraw, toggleOf}
 use Rattle.remy.specs.declared.simulation.Simulation.{Simulation}
 use Rattle.remy.specs.Network.{timesFit}
 use Rattle.remy.specs.State.{noToggler, noMeter, senderAt, togglerAt, meterAt, waitingItems, onLinePackets, packetBits, withSender, withToggler, withMeter}
 use Rattle.remy.specs.Fit.{senderOn, countOf}
 use Rattle.remy.specs.Tick.{enabledSender, heardMeter, switchedSender}
 use Rattle.remy.proofs.Facts.{both-l, both-r}
-use Rattle.remy.proofs.Networks.{FitNetwork, fit-network, few-bits}
+use Rattle.remy.proofs.Networks.{FitNetwork, fit-network, few-bits, far}
 use Rattle.remy.proofs.Steps.{cond-elim}
-use Rattle.remy.proofs.Parts.{new-is}
 use Rattle.remy.proofs.Fresh.{redraw-within}
 use Rattle.steady.proofs.Facts.{NotAfter, Held, EnabledOk, StateOk, PartOk, Body, Loose}
 use Rattle.steady.proofs.Stores.{unset, sender-set, toggler-set, meter-set, store}
-use Rattle.steady.proofs.Times.{Early, now-past, short, new-held, new-ahead}
+use Rattle.steady.proofs.Times.{Early, now-past, new-held, new-ahead}
 use Rattle.steady.proofs.Senders.{first-fit, timer-ok, SentOk, sent-ok, acked-ok}
 use Rattle.steady.proofs.Meters.{Recorded, recorded-ok, Switched, switched-ok}
 
@@ -50,23 +47,13 @@ toggled-ok : (t : Toggler) (clock : Time) (on off : ContinuousDistribution) → 
     → Changed clock t (toggleOf t clock on off .toggler)
 unfolding toggleOf
 toggled-ok t clock on off c f g =
-    let d = positiveOf (cond (not (t .enabled)) on off) (t .rng) in
-    let at = newTime clock (spanOf (d .value)) in
-    let changed : Toggler = record { enabled = not (t .enabled); «next_toggle» = at .time; rng = d .rng } in
+    let d = toggleDraw t on off in
+    let changed : Toggler = record { enabled = not (t .enabled); «next_toggle» = nextToggle clock (d .value); rng = d .rng } in
     let fine : timesFit (cond (not (t .enabled)) on off) ≡ true = cond-elim (λ (x : ContinuousDistribution). timesFit x ≡ true) (not (t .enabled)) on off (λ e. f) (λ e. g) in
+    let short = far (d .value) (redraw-within 8 (cond (not (t .enabled)) on off) fine (t .rng)) in
     cond-elim (λ (x : Toggled). x .number ≡ 0 → Changed clock t (x .toggler)) (eqb (d .number) 0)
-    (cond (eqb (at .number) 0) (record { number = 0; toggler = changed }) (record { number = at .number; toggler = t }))
-    (record { number = d .number; toggler = t })
-    (λ drawn. cond-elim (λ (x : Toggled). x .number ≡ 0 → Changed clock t (x .toggler)) (eqb (at .number) 0)
-    (record { number = 0; toggler = changed }) (record { number = at .number; toggler = t })
-    (λ taken z. let e = eqb-true (at .number) 0 taken in
-    rw (new-is clock (spanOf (d .value)) e)
-    (record {
-      other = refl;
-      held = new-held clock (spanOf (d .value)) c (short (d .value) (redraw-within 8 (cond (not (t .enabled)) on off) fine (t .rng)));
-      ahead = new-ahead clock (spanOf (d .value)) e;
-    }))
-    (λ refused z. absurd (eqb-false (at .number) 0 refused z)))
+    (record { number = 0; toggler = changed }) (record { number = d .number; toggler = t })
+    (λ drawn z. record { other = refl; held = new-held clock (spanOf (d .value)) c short; ahead = new-ahead clock (spanOf (d .value)) c short })
     (λ spent z. absurd (eqb-false (d .number) 0 spent z))
 
 module _ (s : Simulation) (b : Body s) (early : Early (s .head .clock)) where
@@ -98,9 +85,9 @@ module _ (s : Simulation) (b : Body s) (early : Early (s .head .clock)) where
       enabled = subst (StateOk (s .network .policy) (s .head .clock)) on (part .state)
 
       -- ---- its timer
-      pub timer-body : Body (withSender s i (enabledSender (senderAt s i) (senderAt s i .«packets_sent») (tickTimer (s .network .policy) e (s .head .clock) .enabled)))
+      pub timer-body : Body (withSender s i (enabledSender (senderAt s i) (senderAt s i .«packets_sent») (tickTimer (s .network .policy) e (s .head .clock))))
       timer-body =
-          resumed (senderAt s i .«packets_sent») (tickTimer (s .network .policy) e (s .head .clock) .enabled) (ap senderOn on) (le-of-eq refl) (part .sent)
+          resumed (senderAt s i .«packets_sent») (tickTimer (s .network .policy) e (s .head .clock)) (ap senderOn on) (le-of-eq refl) (part .sent)
           (timer-ok (s .head .clock) early e (s .network .policy) (net .policy) enabled)
 
       -- ---- a packet

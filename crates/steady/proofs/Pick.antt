@@ -16,7 +16,7 @@ use Rattle.quantities.specs.declared.time.OptionTime.the-variants.{None, Some}
 use Rattle.quantities.specs.Doubles.{zeroF, power}
 use Rattle.quantities.specs.Units.{spanOf, latestOf, earliestOptOf, spanAfter}
 use Rattle.quantities.proofs.Order.{le-known-l, le-known-r, le-trans, le-antisym, later-left, later-right, later-least}
-use Rattle.quantities.proofs.Ranges.{test→within, within-finite, due-order}
+use Rattle.quantities.proofs.Ranges.{within-finite, due-order}
 use Rattle.meters.specs.declared.meter.AverageFlowMeter.{AverageFlowMeter}
 use Rattle.link.specs.declared.packet.Packet.{Packet}
 use Rattle.link.specs.declared.packet.Transit.{Transit}
@@ -38,13 +38,12 @@ use Rattle.remy.specs.State.{Role, link, sender, toggler, nobody, roleOf, noPac
 use Rattle.remy.specs.Queue.{ownTime, nextTimeOf, partOf, headOf, removed, picked}
 use Rattle.remy.specs.Fit.{heldQueued, sameTime, rising}
 use Rattle.remy.proofs.Facts.{both-l, both-r, holds}
-use Rattle.remy.proofs.Networks.{fit-network, few-senders, delay-from-zero}
+use Rattle.remy.proofs.Networks.{fit-network, few-senders, delay-within}
 use Rattle.remy.proofs.Kept.{at-set}
 use Rattle.remy.proofs.Roles.{Real, role-at, role-of, part-inside}
-use Rattle.remy.proofs.Fresh.{All}
+use Rattle.remy.proofs.Lists.{All, all-map}
 use Rattle.steady.proofs.Facts.{NotAfter, Held, Past, PastIfAny, PacketOk, TransitOk, TimerIfAny, StateOk, MeterOk, Body, sentOf, QueueOk, Between}
-use Rattle.steady.proofs.Lists.{all-map}
-use Rattle.steady.proofs.Full.{full-queue}
+use Rattle.remy.proofs.Full.{full-queue}
 use Rattle.steady.proofs.Ahead.{FromIfAny, Ahead, held-known, queued-ahead, ahead-queued, same-self, same-trans, from-same, from-left, from-right, same-earliest}
 use Rattle.steady.proofs.Requeue.{front-ok, transmit-ahead, deliver-ahead, send-ahead, timer-ahead}
 
@@ -188,8 +187,8 @@ module _ (s : Simulation) (b : Body s) (t : Time) (ahead : Ahead (s .head .clock
       let net = fit-network (s .network) (b .network) in
       let delay = s .network .delay in
       due-order binary64 (s .head .clock .0 .0) (t .0 .0) delay (b .clock, ahead .from) (within-finite (t .0 .0) (power 41) (from-zero, ahead .held) tt)
-      (within-finite delay (power 20) (test→within (power 20) delay (net .delay)) tt)
-      (delay-from-zero net)
+      (within-finite delay (power 40) (delay-within net) tt)
+      (delay-within net .0)
 
   moved-body : Body (moved s j t)
   moved-body =

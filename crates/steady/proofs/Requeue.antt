@@ -35,10 +35,9 @@ use Rattle.remy.specs.Queue.{ownTime, nextTimeOf, partOf, requeue}
 use Rattle.remy.specs.Fit.{held, heldQueued, sameTime}
 use Rattle.remy.proofs.Steps.{cond-elim}
 use Rattle.remy.proofs.Roles.{Real, role-at, role-of}
-use Rattle.remy.proofs.Fresh.{All}
+use Rattle.remy.proofs.Lists.{All, all-first}
 use Rattle.steady.proofs.Facts.{Held, TransitOk, StateOk, TimerIfAny, Body, sentOf, PlaceOk, QueueBut, QueueOk}
-use Rattle.steady.proofs.Lists.{all-first}
-use Rattle.steady.proofs.Full.{full-queue}
+use Rattle.remy.proofs.Full.{full-queue}
 use Rattle.steady.proofs.Ahead.{Ahead, ahead-queued, same-self, ahead-now, ahead-latest, ahead-earliest}
 
 -- ---- stores

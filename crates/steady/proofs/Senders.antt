@@ -3,16 +3,15 @@ use mathlib.Core.Path.{_≡_, refl}
 use mathlib.Core.Bool.{true, _&&_}
 use Prim.Native.Nat.{ℕ, _+_, _/_, min, max, _≤_, _<_}
 use native.Mathlib.Omega.{arith}
-use borrow.Author.Tests.{le-leb, leb-false, eqb-false}
-use lib.Dec.{leb, eqb}
+use borrow.Author.Tests.{le-leb, leb-false}
+use lib.Dec.{leb}
 use Rattle.quantities.specs.declared.time.Time.{Time}
 use Rattle.link.specs.declared.packet.Packet.{Packet}
 use Rattle.sender.specs.declared.lossy.Policy.{Policy}
 use Rattle.sender.specs.declared.lossy.Policy.the-variants as Policy
 use Rattle.sender.specs.declared.lossy.Enabled.{Enabled}
 use Rattle.sender.specs.declared.lossy.Sent.{Sent}
-use Rattle.sender.specs.declared.lossy.TimerTicked.{TimerTicked}
-use Rattle.sender.specs.Sender.{firstWindow, windowSent, windowCounted, timerIn, timerSent, tickTimer, notSent, sentWith, tickSend, acked}
+use Rattle.sender.specs.Sender.{firstWindow, windowSent, windowCounted, tickTimer, notSent, sentWith, tickSend, acked}
 use Rattle.remy.specs.Network.{windowFit, gapFit, policyFit}
 use Rattle.remy.proofs.Facts.{both-l, both-r, both-i, between-low, between-high}
 use Rattle.remy.proofs.Steps.{cond-elim}
@@ -60,41 +59,26 @@ pub record SentOk (clock : Time) (sent : ℕ) (policy : Policy) (i : ℕ) (t : S
 
 module _ (clock : Time) (c : Early clock) (e : Enabled) where
   -- ---- a timer
-  pub timer-ok : (policy : Policy) → policyFit policy ≡ true → EnabledOk policy clock e → EnabledOk policy clock (tickTimer policy e clock .enabled)
+  pub timer-ok : (policy : Policy) → policyFit policy ≡ true → EnabledOk policy clock e → EnabledOk policy clock (tickTimer policy e clock)
   unfolding tickTimer
   timer-ok (Policy.Held w) f k = record { started = k .started; ack = k .ack; window = k .window; timer = tt }
   timer-ok (Policy.Grown first most) f k = record { started = k .started; ack = k .ack; window = k .window; timer = tt }
   timer-ok (Policy.Timed most gap) f k =
-      let set = timerIn clock gap in
-      cond-elim (λ (x : TimerTicked). EnabledOk (Policy.Timed most gap) clock (x .enabled)) (eqb (set .number) 0)
-      (record { number = 0; enabled = record { started = e .started; «greatest_ack» = e .«greatest_ack»; cwnd = max 1 (e .cwnd / 2); timer = set .timer } })
-      (record { number = set .number; enabled = e })
-      (λ q. record { started = k .started; ack = k .ack; window = halved-fit (e .cwnd) (k .window); timer = timer-in-ok most gap clock f c })
-      (λ q. k)
+      record { started = k .started; ack = k .ack; window = halved-fit (e .cwnd) (k .window); timer = timer-in-ok most gap clock f c }
 
   -- ---- a send
   pub sent-ok : (sent : ℕ) (policy : Policy) (i : ℕ) → policyFit policy ≡ true → EnabledOk policy clock e → tickSend sent policy e clock i .number ≡ 0
       → SentOk clock sent policy i (tickSend sent policy e clock i)
   unfolding tickSend
   sent-ok sent policy i f k =
-      let set = timerSent policy (e .timer) clock in
-      cond-elim (λ (t : Sent). t .number ≡ 0 → SentOk clock sent policy i t) (leb 16777216 sent) (notSent sent e clock i 11) (sentWith sent policy e clock i set)
+      cond-elim (λ (t : Sent). t .number ≡ 0 → SentOk clock sent policy i t) (leb 16777216 sent) (notSent sent e clock i) (sentWith sent policy e clock i)
       (λ spent z. let no : ⊥ = omega (arith, z) in absurd no)
-      (λ room. cond-elim (λ (t : Sent). t .number ≡ 0 → SentOk clock sent policy i t) (eqb (set .number) 0)
-      (record {
-        number = 0;
-        packet = record { sender = i; seq = sent + 1; «sent_time» = clock };
-        «packets_sent» = sent + 1;
-        enabled = record { started = e .started; «greatest_ack» = e .«greatest_ack»; cwnd = windowSent policy (e .cwnd); timer = set .timer };
-      })
-      (notSent sent e clock i (set .number))
-      (λ set-fine z. record {
+      (λ room z. record {
         room = leb-false 16777216 sent room;
         packet = refl;
         count = refl;
         enabled = record { started = k .started; ack = k .ack; window = sent-fit policy (e .cwnd) f (k .window); timer = timer-sent-ok policy (e .timer) clock f c (k .timer) };
       })
-      (λ refused z. absurd (eqb-false (set .number) 0 refused z)))
 
   -- ---- a packet that is counted
   pub acked-ok : (policy : Policy) (p : Packet) → policyFit policy ≡ true → p .seq ≤ 16777216 → EnabledOk policy clock e → EnabledOk policy clock (acked policy e p)

@@ -21,15 +21,18 @@ use Rattle.remy.proofs.Front.{clock-bounded}
 use Rattle.remy.proofs.Steps.{cond-elim}
 use Rattle.remy.proofs.Outcomes.{OnMoves}
 use Rattle.remy.proofs.Fresh.{fresh-fit}
-use Rattle.steady.specs.Steady.{dueSoon, steady, Full}
+use Rattle.steady.specs.Steady.{dueSoon, steady}
+use Rattle.steady.specs.Clock.{Typed, NeverBack}
 use Rattle.steady.proofs.Open.{opened}
 use Rattle.steady.proofs.Close.{closed}
-use Rattle.steady.proofs.Full.{built-new}
-use Rattle.steady.proofs.Turns.{Landed, LandedBy, turn-lands}
+use Rattle.remy.proofs.Full.{built-none}
+use Rattle.steady.proofs.Turns.{LandedBy, turn-lands}
+use Rattle.steady.proofs.Clock.{tick-typed, fresh-typed, built-typed, never-back}
 
+-- what every tick keeps: the test, and what the types of code say
 pub record Steady (s : Simulation) : Type 0 where
   pub test : steady s ≡ true
-  pub full : Full s
+  pub typed : Typed s
 
 pub steady-fit : (s : Simulation) → steady s ≡ true → fit s ≡ true
 unfolding steady
@@ -37,25 +40,25 @@ steady-fit s e = both-l (fit s) (every (dueSoon s) (onLineItems s)) e
 
 -- ---- every tick
 
-landed : (s : Simulation) → Landed s → Steady s
-landed s l = record { test = closed s (l .part) (l .between); full = l .between .body .full }
+on-outcome : (s : Simulation) → steady s ≡ true → (o : Outcome) → OnMoves LandedBy o → steady (ticked s o .simulation) ≡ true
+on-outcome s e (moves r m) l = closed m (l .part) (l .between)
+on-outcome s e (stops n) l = e
 
-on-outcome : (s : Simulation) → Steady s → (o : Outcome) → OnMoves LandedBy o → Steady (ticked s o .simulation)
-on-outcome s k (moves r m) l = landed m l
-on-outcome s k (stops n) l = k
+tick-test : (s : Simulation) → Steady s → steady (tickOf s .simulation) ≡ true
+unfolding tickOf
+tick-test s k =
+    cond-elim (λ (t : Ticked). steady (t .simulation) ≡ true) (fit s) (tickNext s (s .head .next)) (unmoved s 9) (λ e. with-next (s .head .next) refl) (λ e. k .test)
+  where
+    with-next : (x : Next) → s .head .next ≡ x → steady (tickNext s x .simulation) ≡ true
+    with-next Next.None e = k .test
+    with-next (Next.Part j) e =
+        cond-elim (λ (t : Ticked). steady (t .simulation) ≡ true) (lt (power 40) (s .head .clock .0 .0)) (unmoved s 10) (ticked s (outcomeOf s (roleOf (s .network .senders) j)))
+        (λ late. k .test)
+        (λ early. on-outcome s (k .test) (outcomeOf s (roleOf (s .network .senders) j))
+        (turn-lands s j (opened s j (k .test) (k .typed .full) e) (clock-bounded s (fit-state s (steady-fit s (k .test))) early) (k .typed .clock)))
 
 pub tick-steady : (s : Simulation) → Steady s → Steady (tickOf s .simulation)
-unfolding tickOf
-tick-steady s k =
-    cond-elim (λ (t : Ticked). Steady (t .simulation)) (fit s) (tickNext s (s .head .next)) (unmoved s 9) (λ e. with-next (s .head .next) refl) (λ e. k)
-  where
-    with-next : (x : Next) → s .head .next ≡ x → Steady (tickNext s x .simulation)
-    with-next Next.None e = k
-    with-next (Next.Part j) e =
-        cond-elim (λ (t : Ticked). Steady (t .simulation)) (lt (power 40) (s .head .clock .0 .0)) (unmoved s 10) (ticked s (outcomeOf s (roleOf (s .network .senders) j)))
-        (λ late. k)
-        (λ early. on-outcome s k (outcomeOf s (roleOf (s .network .senders) j))
-        (turn-lands s j (opened s j (k .test) (k .full) e) (clock-bounded s (fit-state s (steady-fit s (k .test))) early)))
+tick-steady s k = record { test = tick-test s k; typed = tick-typed s (k .typed) }
 
 -- ---- every state reached from a build
 
@@ -64,8 +67,7 @@ built-steady : (n : RemyNetwork) (seed : ℕ) → Steady (buildOf n seed .simula
 unfolding steady
 built-steady n seed =
     let s = buildOf n seed .simulation in
-    let k = built-new n seed in
-    record { test = both-i (fit s) (every (dueSoon s) (onLineItems s)) (fresh-fit n seed) (ap (every (dueSoon s)) (k .none)); full = k .full }
+    record { test = both-i (fit s) (every (dueSoon s) (onLineItems s)) (fresh-fit n seed) (ap (every (dueSoon s)) (built-none n seed)); typed = built-typed n seed }
 
 after-steady : (cs : List Call) (s : Simulation) → Steady s → Steady (after cs s)
 after-steady [] s k = k
@@ -77,3 +79,7 @@ reached-steady n s f cs = after-steady cs s (subst (λ (b : Built). Steady (b .s
 -- Every state that is reached from a build is fit.
 pub reached-fit : (n : RemyNetwork) (s : Simulation) → Fresh n s → (cs : List Call) → fit (after cs s) ≡ true
 reached-fit n s f cs = steady-fit (after cs s) (reached-steady n s f cs .test)
+
+-- The clock of a fresh simulation can't go back, whatever calls follow.
+pub fresh-never-back : (n : RemyNetwork) (s : Simulation) → Fresh n s → NeverBack s
+fresh-never-back n s f = never-back s (fresh-typed n s f)

@@ -22,7 +22,7 @@ use Rattle.remy.specs.State.{noPacket, noTransit, noSender, noToggler, noMeter,
 use Rattle.remy.specs.Fit.{countOf}
 use Rattle.remy.proofs.Networks.{fit-network, few-senders}
 use Rattle.steady.proofs.Facts.{PacketOk, TransitOk, LineOk, PartOk, sentOf, Body}
-use Rattle.steady.proofs.Lists.{all-map}
+use Rattle.remy.proofs.Lists.{all-map}
 
 -- ---- more packets sent
 

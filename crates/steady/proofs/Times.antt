@@ -1,92 +1,58 @@
 -- Times at an early clock: new times, timers, and spans since a past time. Assumes nothing.
 use mathlib.Core.Path.{_≡_, refl}
-use mathlib.Core.Bool.{Bool, true, false}
+use mathlib.Core.Bool.{true}
 use Prim.Native.Nat.{ℕ, _-_, _*_, _≤_}
 use native.Mathlib.Nat.{mul-assoc, mul-le-mul-right, sub-le}
 use native.Mathlib.Nat
-use native.Mathlib.Omega.{arith}
-use borrow.Author.Tests.{eqb-true}
-use lib.Dec.{T, eqb}
-use lib.IntN.{negsuc}
-use lib.Ieee.{Float, Format, binary64, fin, add, sub, le, fits}
+use lib.Dec.{T}
+use lib.Ieee.{Float, Format, binary64, add, sub, le, fits}
 use lib.Ieee.Scale.{finite}
 use lib.Ieee.Positive.{num, den}
 use Rattle.quantities.specs.declared.time.Time.{Time}
 use Rattle.quantities.specs.declared.time.OptionTime.{OptionTime}
 use Rattle.quantities.specs.declared.time.OptionTime.the-variants.{None, Some}
 use Rattle.quantities.specs.declared.time_span.TimeSpan.{TimeSpan}
-use Rattle.quantities.specs.Doubles.{zeroF, power, least, largest, inRange}
+use Rattle.quantities.specs.Doubles.{zeroF, power, largest}
 use Rattle.quantities.specs.Units.{spanOf, since, spanSum, spanAfter}
+use Rattle.quantities.specs.NewTime.{Double}
 use Rattle.quantities.proofs.Order.{le-trans, le-refl, le-known-r}
 use Rattle.quantities.proofs.Values.{Is, Rounds, own, le-is, rounds-below, rounds-from-zero, sub-rounds}
-use Rattle.quantities.proofs.Ranges.{within, within-wider, within-finite, test→within, add-within}
+use Rattle.quantities.proofs.Ranges.{within, within-finite, test→within, add-within, sum-held, sum-fine}
 use Rattle.meters.specs.Meter.{totalFit}
 use Rattle.sender.specs.declared.lossy.Policy.{Policy}
 use Rattle.sender.specs.declared.lossy.Policy.the-variants as Policy
-use Rattle.sender.specs.declared.lossy.TimerSet.{TimerSet}
-use Rattle.quantities.specs.NewTime.{timeFine, newTime}
 use Rattle.sender.specs.Sender.{timerIn, timerSent}
-use Rattle.remy.specs.Network.{windowFit, gapFit, policyFit}
-use Rattle.remy.proofs.Facts.{both-r, holds, range-low, range-high, range-i}
-use Rattle.remy.proofs.Parts.{new-is}
-use Rattle.remy.proofs.Steps.{cond-elim}
-use Rattle.steady.proofs.Facts.{NotAfter, Held, Past, TimerIfAny}
+use Rattle.remy.specs.Network.{policyFit}
+use Rattle.remy.proofs.Facts.{range-i}
+use Rattle.remy.proofs.Networks.{gap-within}
+use Rattle.steady.proofs.Facts.{NotAfter, Held, Past, TimerOk, TimerIfAny}
 
--- a clock that stop 10 lets pass
+-- a clock that stop 10 lets pass, and that is a double
 pub record Early (clock : Time) : Type 0 where
   pub low : T (le zeroF (clock .0 .0))
   pub high : T (le (clock .0 .0) (power 40))
+  pub double : Double clock
 
 pub now-past : (clock : Time) → Early clock → Past clock clock
 now-past clock c = record { low = c .low; high = le-refl (clock .0 .0) (le-known-r zeroF (clock .0 .0) (c .low)) }
 
 -- ---- new times
 
--- a delay, a gap and a draw are at most 2^20; the time that a packet takes to start is at most 2^24
-pub short : (x : Float) → within x (power 20) → within x (power 24)
-short x w = within-wider x (power 20) (power 24) w (unfold le in tt)
+pub new-held : (clock : Time) (span : TimeSpan) → Early clock → within (span .0) (power 40) → Held (spanAfter clock span)
+new-held clock span c w = sum-held clock span (c .low, c .high) w
 
-pub new-held : (clock : Time) (span : TimeSpan) → Early clock → within (span .0) (power 24) → Held (spanAfter clock span)
-new-held clock span c w = add-within binary64 (clock .0 .0) (power 40) (span .0) (power 24) (power 41) (c .low, c .high) w tt tt (unfold add le in tt) tt .1 .1
-
--- where the new time is not refused
-pub new-ahead : (clock : Time) (span : TimeSpan) → newTime clock span .number ≡ 0 → NotAfter clock (spanAfter clock span)
-unfolding newTime
-new-ahead clock span e = by (timeFine clock (spanAfter clock span)) refl
-  where
-    by : (b : Bool) → timeFine clock (spanAfter clock span) ≡ b → NotAfter clock (spanAfter clock span)
-    by true f =
-        let late = le (clock .0 .0) (spanAfter clock span .0 .0) in
-        holds late (both-r (inRange least largest (spanAfter clock span .0 .0)) late f)
-    by false f = let no : ⊥ = omega (arith, rw f at e) in absurd no
+pub new-ahead : (clock : Time) (span : TimeSpan) → Early clock → within (span .0) (power 40) → NotAfter clock (spanAfter clock span)
+new-ahead clock span c w = sum-fine clock span (c .low, c .high) w (c .double) .ahead
 
 -- ---- timers
 
--- a gap is at most 2^20
-pub gap-within : (gap : Float) → gapFit gap ≡ true → within gap (power 20)
-gap-within gap e = (
-  le-trans zeroF (fin false 1 (negsuc 19)) gap (unfold le in tt) (range-low (fin false 1 (negsuc 19)) (power 20) gap e),
-  range-high (fin false 1 (negsuc 19)) (power 20) gap e,
-)
-
 pub timer-in-ok : (most : ℕ) (gap : Float) (clock : Time) → policyFit (Policy.Timed most gap) ≡ true → Early clock
-    → TimerIfAny (Policy.Timed most gap) clock (timerIn clock gap .timer)
-unfolding timerIn
+    → TimerOk (Policy.Timed most gap) clock (timerIn clock gap)
 timer-in-ok most gap clock f c =
-    let a = newTime clock (spanOf gap) in
-    cond-elim (λ (x : TimerSet). TimerIfAny (Policy.Timed most gap) clock (x .timer)) (eqb (a .number) 0)
-    (record { number = 0; timer = Some (a .time) }) (record { number = a .number; timer = None })
-    (λ e. let z = eqb-true (a .number) 0 e in
-    rw (new-is clock (spanOf gap) z)
-    (record {
-      timed = refl;
-      held = new-held clock (spanOf gap) c (short gap (gap-within gap (both-r (windowFit most) (gapFit gap) f)));
-      ahead = new-ahead clock (spanOf gap) z;
-    }))
-    (λ e. tt)
+    record { timed = refl; held = new-held clock (spanOf gap) c (gap-within most gap f); ahead = new-ahead clock (spanOf gap) c (gap-within most gap f) }
 
 pub timer-sent-ok : (policy : Policy) (timer : OptionTime) (clock : Time) → policyFit policy ≡ true → Early clock → TimerIfAny policy clock timer
-    → TimerIfAny policy clock (timerSent policy timer clock .timer)
+    → TimerIfAny policy clock (timerSent policy timer clock)
 unfolding timerSent
 timer-sent-ok (Policy.Held w) timer clock f c k = k
 timer-sent-ok (Policy.Grown first most) timer clock f c k = k

@@ -9,7 +9,7 @@ use lib.Dec.{T, leb, eqb}
 use lib.Ieee.{lt, le}
 use lib.ListN.{set}
 use Rattle.quantities.specs.Doubles.{power}
-use Rattle.quantities.specs.Units.{spanOf, rateOf, amountOverRate}
+use Rattle.quantities.specs.Units.{spanOf, rateOf}
 use Rattle.rand.specs.Draws.{unitOf}
 use Rattle.meters.specs.Meter.{switchedOf}
 use Rattle.link.specs.declared.packet.Packet.{Packet}
@@ -27,10 +27,10 @@ use Rattle.sender.specs.declared.lossy.Heard.{Heard}
 use Rattle.sender.specs.declared.lossy.Heard.the-variants as Heard
 use Rattle.toggler.specs.declared.toggler.Toggled.{Toggled}
 use Rattle.link.specs.Ring.{places, placeAfter}
-use Rattle.link.specs.Link.{admits, admitted, receiveOf, isDue, departed, tryDeliver, isFree, startedLine, notStarted, startWith, tryTransmit}
+use Rattle.link.specs.Link.{admits, admitted, receiveOf, isDue, departed, tryDeliver, isFree, notStarted, tryTransmit}
 use Rattle.sender.specs.Sender.{tickTimer, tickSend, timerDue, returnedOf}
 use Rattle.toggler.specs.Toggler.{toggleOf}
-use Rattle.quantities.specs.NewTime.{newTime}
+use Rattle.quantities.specs.NewTime.{Double}
 use Rattle.toggler.specs.Queue.{pickOf}
 use Rattle.remy.specs.declared.network.RemyNetwork.{RemyNetwork}
 use Rattle.remy.specs.declared.simulation.Simulation.{Simulation}
@@ -41,7 +41,6 @@ use Rattle.remy.specs.State.{Role, link, sender, toggler, nobody, roleOf, sende
 use Rattle.remy.specs.Queue.{ownTime, partOf, requeue, picked}
 use Rattle.remy.specs.Tick.{named, recordAt, arrives, returns, switches, Acted, stopped, linkWith, linkActs, enabledSender, timerWith, sendWith, senderWith, senderActs, togglerActs, actsOf, Outcome, moves, stops, arriveWith, heardMeter, switchedSender, deliver, pickAgain, outcomeWith, outcomeOf}
 use Rattle.remy.proofs.Steps.{cond-elim}
-use Rattle.remy.proofs.Parts.{new-is}
 use Rattle.remy.proofs.Outcomes.{OnMoves, on-stopped}
 use Rattle.remy.proofs.Roles.{Real, role-at}
 use Rattle.steady.proofs.Facts.{Body, Loose, QueueBut, QueueOk, Between}
@@ -99,21 +98,11 @@ module _ (s : Simulation) (b : Body s) (early : Early (s .head .clock)) where
   transmit-elim F none stop go =
       let l = s .line in
       let clock = s .head .clock in
-      let size = packetBits (s .network) (firstOf s) in
-      let free = newTime clock (amountOverRate size (rateOf (s .network .rate))) in
-      let due = newTime clock (spanOf (s .network .delay)) in
-      let starts : Transmitted = record { number = 0; begun = Begun.Starts (record { packet = firstOf s; due = due .time }); line = startedLine l size (free .time) } in
-      cond-elim F (isFree l clock) (cond (leb places (l .«on_line» .count)) (notStarted l 13) (startWith l (firstOf s) size free due)) (notStarted l 0)
-      (λ e. cond-elim F (leb places (l .«on_line» .count)) (notStarted l 13) (startWith l (firstOf s) size free due)
+      let starts : Transmitted = record { number = 0; begun = Begun.Starts (begun s); line = started s .line } in
+      cond-elim F (isFree l clock) (cond (leb places (l .«on_line» .count)) (notStarted l 13) starts) (notStarted l 0)
+      (λ e. cond-elim F (leb places (l .«on_line» .count)) (notStarted l 13) starts
       (λ full. stop 13 refl)
-      (λ room. cond-elim F (eqb (free .number) 0) (cond (eqb (due .number) 0) starts (notStarted l (due .number))) (notStarted l (free .number))
-      (λ f. cond-elim F (eqb (due .number) 0) starts (notStarted l (due .number))
-      (λ g.
-      let f0 = eqb-true (free .number) 0 f in
-      let g0 = eqb-true (due .number) 0 g in
-      rw (new-is clock _ f0, new-is clock _ g0) (go (start-body s b early e room g0) (start-loose s b early e room g0)))
-      (λ g. stop (due .number) g))
-      (λ f. stop (free .number) f)))
+      (λ room. go (start-body s b early e room) (start-loose s b early e room)))
       (λ e. none)
 
 -- ---- a packet that comes back
@@ -242,11 +231,7 @@ module _ (s : Simulation) (i : ℕ) (h : i < s .network .senders) (b : Between (
       let u = tickSend sent policy e clock i in
       let F : Acted → Type 0 = λ a. OnMoves LandedBy (outcomeWith (sender i) a) in
       cond-elim F (timerDue e clock) (timerWith s i t) (sendWith s i u)
-      (λ due. cond-elim F (eqb (t .number) 0)
-      (record { number = 0; note = recordAt s (sender i) Mark.Timer Name.None Name.None; simulation = withSender s i (enabledSender (senderAt s i) sent (t .enabled)); messages = [] })
-      (stopped s (t .number))
-      (λ z. land _ (sender-ready (enabledSender (senderAt s i) sent (t .enabled)) (timer-body s (b .body) early i h e q)))
-      (λ z. on-stopped LandedBy (sender i) s (t .number) z))
+      (λ due. land _ (sender-ready (enabledSender (senderAt s i) sent t) (timer-body s (b .body) early i h e q)))
       (λ due. cond-elim F (eqb (u .number) 0)
       (record {
         number = 0;
@@ -317,11 +302,12 @@ nobody-lands : (s : Simulation) → OnMoves LandedBy (outcomeOf s nobody)
 unfolding outcomeOf actsOf
 nobody-lands s = tt
 
-pub turn-lands : (s : Simulation) (j : ℕ) → Between j s → T (le (s .head .clock .0 .0) (power 40)) → OnMoves LandedBy (outcomeOf s (roleOf (s .network .senders) j))
-turn-lands s j b high = role-at (λ (role : Role). OnMoves LandedBy (outcomeOf s role)) (s .network .senders) j at (nobody-lands s)
+pub turn-lands : (s : Simulation) (j : ℕ) → Between j s → T (le (s .head .clock .0 .0) (power 40)) → Double (s .head .clock)
+    → OnMoves LandedBy (outcomeOf s (roleOf (s .network .senders) j))
+turn-lands s j b high double = role-at (λ (role : Role). OnMoves LandedBy (outcomeOf s role)) (s .network .senders) j at (nobody-lands s)
   where
     early : Early (s .head .clock)
-    early = record { low = b .body .clock; high = high }
+    early = record { low = b .body .clock; high = high; double = double }
 
     at : (role : Role) → Real (s .network .senders) role → j ≡ partOf role → OnMoves LandedBy (outcomeOf s role)
     at link r e = link-lands s (subst (λ (k : ℕ). Between k s) e b) early

@@ -1,2 +1,3 @@
--- What every tick keeps.
+-- What every tick keeps, and that the clock cannot go back.
 pub mod Steady
+pub mod Clock

@@ -1,13 +1,9 @@
 -- A steady state: fit, and no packet on the line is due later than the clock and the delay. Every tick keeps it, refused and idle ones too (proofs/Steady.antt), and
 -- every build gives it; fit alone is not kept. Definitions only.
-use mathlib.Core.Path.{_≡_}
 use mathlib.Core.Bool.{Bool, _&&_}
 use lib.Ieee.{le}
-use lib.ListN.{length}
 use Rattle.quantities.specs.Units.{spanOf, spanAfter}
 use Rattle.link.specs.declared.packet.Transit.{Transit}
-use Rattle.link.specs.Ring.{places}
-use Rattle.toggler.specs.Queue.{queuePlaces}
 use Rattle.remy.specs.declared.simulation.Simulation.{Simulation}
 use Rattle.remy.specs.State.{onLineItems}
 use Rattle.remy.specs.Fit.{every, fit}
@@ -17,12 +13,3 @@ dueSoon s x = le (x .due .0 .0) (spanAfter (s .head .clock) (spanOf (s .network 
 
 unfoldable pub steady : Simulation → Bool
 steady s = fit s && every (dueSoon s) (onLineItems s)
-
--- the arrays have all their places, as the code's arrays do
-pub record Full (s : Simulation) : Type 0 where
-  pub waiting : length (s .waiting) ≡ places
-  pub moving : length (s .«on_line») ≡ places
-  pub senders : length (s .senders) ≡ 16
-  pub togglers : length (s .togglers) ≡ 16
-  pub meters : length (s .meters) ≡ 16
-  pub queue : length (s .queue) ≡ queuePlaces

@@ -1,6 +1,7 @@
 -- Document 01, "Toggler", and row 8 of "Stops". Definitions only.
 use mathlib.Core.Bool.{false, not, cond}
 use lib.Dec.{eqb}
+use lib.Ieee.{Float}
 use Rattle.quantities.specs.declared.time.Time.{Time}
 use Rattle.quantities.specs.Doubles.{zeroF}
 use Rattle.quantities.specs.Units.{spanOf, timeOf, spanAfter}
@@ -9,7 +10,6 @@ use Rattle.rand.specs.declared.distribution.ContinuousDistribution.{ContinuousD
 use Rattle.rand.specs.Draws.{PositiveDraw, positiveOf}
 use Rattle.toggler.specs.declared.toggler.Toggler.{Toggler}
 use Rattle.toggler.specs.declared.toggler.Toggled.{Toggled}
-use Rattle.quantities.specs.NewTime.{TimeAnswer, newTime}
 
 -- Off at first; first toggle = 0 + an off draw. A spent draw leaves the generator as it was.
 unfoldable pub newToggler : Rng → ContinuousDistribution → Toggled
@@ -19,16 +19,20 @@ newToggler g off =
     (record { number = 0; toggler = record { enabled = false; «next_toggle» = spanAfter (timeOf zeroF) (spanOf (d .value)); rng = d .rng } })
     (record { number = d .number; toggler = record { enabled = false; «next_toggle» = timeOf zeroF; rng = g } })
 
-abbrev pub toggleWith : Toggler → PositiveDraw → TimeAnswer → Toggled
-toggleWith t d at =
+-- the next toggle: clock + draw
+abbrev pub nextToggle : Time → Float → Time
+nextToggle clock draw = spanAfter clock (spanOf draw)
+
+abbrev pub toggleWith : Toggler → Time → PositiveDraw → Toggled
+toggleWith t clock d =
     cond (eqb (d .number) 0)
-    (cond (eqb (at .number) 0)
-    (record { number = 0; toggler = record { enabled = not (t .enabled); «next_toggle» = at .time; rng = d .rng } })
-    (record { number = at .number; toggler = t }))
+    (record { number = 0; toggler = record { enabled = not (t .enabled); «next_toggle» = nextToggle clock (d .value); rng = d .rng } })
     (record { number = d .number; toggler = t })
+
+-- the draw of the length of the state entered
+abbrev pub toggleDraw : Toggler → ContinuousDistribution → ContinuousDistribution → PositiveDraw
+toggleDraw t on off = positiveOf (cond (not (t .enabled)) on off) (t .rng)
 
 -- Each toggle draws the length of the state entered.
 unfoldable pub toggleOf : Toggler → Time → ContinuousDistribution → ContinuousDistribution → Toggled
-toggleOf t clock on off =
-    let d = positiveOf (cond (not (t .enabled)) on off) (t .rng) in
-    toggleWith t d (newTime clock (spanOf (d .value)))
+toggleOf t clock on off = toggleWith t clock (toggleDraw t on off)

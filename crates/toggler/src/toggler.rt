@@ -1,10 +1,8 @@
 ghost use mathlib.Core.Path.{_≡_};
 ghost use mathlib.Core.Bool.{cond};
 ghost use Rattle.toggler.specs.Toggler.{newToggler, toggleOf};
-use quantities::NewTime;
 use quantities::Time;
 use quantities::TimeSpan;
-use quantities::new_time::new_time;
 use rand::ContinuousDistribution;
 use rand::PositiveSample;
 use rand::Rng;
@@ -16,7 +14,7 @@ pub struct Toggler {
     pub rng: Rng,
 }
 
-// What a toggle does: the number (0, 8 or 14), and the toggler after it, or as it was.
+// What a toggle does: the number (0 or 8), and the toggler after it, or as it was.
 pub struct Toggled {
     pub number: u32,
     pub toggler: Toggler,
@@ -67,13 +65,7 @@ impl Toggler {
                 toggler: self,
             };
         };
-        let at = new_time(clock, TimeSpan(span));
-        let NewTime::At(next_toggle) = at else {
-            return Toggled {
-                number: 14,
-                toggler: self,
-            };
-        };
+        let next_toggle = clock.add(TimeSpan(span));
         let toggler = Toggler {
             enabled,
             next_toggle,

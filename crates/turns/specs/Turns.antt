@@ -22,7 +22,6 @@ use Rattle.sender.specs.declared.lossy.Enabled.{Enabled}
 use Rattle.sender.specs.declared.lossy.SenderState.{SenderState}
 use Rattle.sender.specs.declared.lossy.SenderState.the-variants as State
 use Rattle.sender.specs.declared.lossy.LossySender.{LossySender}
-use Rattle.sender.specs.declared.lossy.TimerTicked.{TimerTicked}
 use Rattle.sender.specs.declared.lossy.Sent.{Sent}
 use Rattle.sender.specs.declared.lossy.Heard.{Heard}
 use Rattle.sender.specs.declared.lossy.Heard.the-variants as Heard
@@ -85,8 +84,8 @@ linkNote clock left begun mark = record { time = clock; part = 0; mark = mark; p
 
 -- ---- a sender
 
-abbrev pub timerTook : LossySender → TimerTicked → SenderActed
-timerTook x t = record { number = t .number; sending = Sending.Timer; sender = enabledSender x (x .«packets_sent») (t .enabled) }
+abbrev pub timerTook : LossySender → Enabled → SenderActed
+timerTook x e = record { number = 0; sending = Sending.Timer; sender = enabledSender x (x .«packets_sent») e }
 
 abbrev pub sendTook : LossySender → Sent → SenderActed
 sendTook x t = record { number = t .number; sending = Sending.Packet (t .packet); sender = enabledSender x (t .«packets_sent») (t .enabled) }

@@ -232,15 +232,14 @@ pub fn sender_acts(network: RemyNetwork, clock: Time, sender: LossySender, i: us
     let sent = sender.packets_sent;
     let rng = sender.rng;
     if enabled.timer_due(clock) {
-        let t = enabled.tick_timer(policy, clock);
-        let after = t.enabled;
+        let after = enabled.tick_timer(policy, clock);
         let sender = LossySender {
             packets_sent: sent,
             state: SenderState::Enabled(after),
             rng,
         };
         return SenderActed {
-            number: t.number,
+            number: 0,
             sending: Sending::Timer,
             sender,
         };

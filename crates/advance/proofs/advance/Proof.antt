@@ -1,10 +1,10 @@
--- The loop keeps: the ticks left from here give what all n give from the start; a steady state where it began with one; and the lengths of two arrays. Each arm's turn is a law of Loop; what is known at a point of the code is shown once, for all that need it. Assumes nothing.
-use mathlib.Core.Path.{_≡_, sym, ap, _∙_}
+-- The loop keeps: the ticks left from here give what all n give from the start; what the types of code say; and a steady state where it began with one. Each arm's turn is a law of Loop; what is known at a point of the code is shown once, for all that need it. Assumes nothing.
+use mathlib.Core.Path.{_≡_, sym, ap, subst, _∙_}
 use mathlib.Core.Bool.{true}
 use mathlib.Core.Logic.{⊎-elim}
 use Prim.Native.Nat.{ℕ, _+_, _-_, _≤_, _<_}
 use native.Mathlib.Omega.{arith}
-use lib.ListN.{length, set, length-map}
+use lib.ListN.{set}
 use borrow.Author.Needs.{needs}
 use borrow.Author.Tests.{ne-eqb}
 use Rattle.toggler.specs.declared.tick_queue.Queued.{Queued}
@@ -12,14 +12,17 @@ use Rattle.toggler.specs.declared.tick_queue.Picked.{Picked}
 use Rattle.toggler.specs.Queue.{pickOf}
 use Rattle.remy.specs.declared.simulation.Simulation.{Simulation}
 use Rattle.remy.specs.declared.simulation.TickRecord.{TickRecord}
+use Rattle.remy.specs.declared.simulation.Ticked.{Ticked}
 use Rattle.remy.specs.State.{link, sender, toggler, frontOf}
 use Rattle.remy.specs.Tick.{emptyRecord, moves, unmoved, ticked, tickOf}
 use Rattle.remy.specs.Fit.{fit}
-use Rattle.steady.specs.Steady.{Full}
+use Rattle.steady.specs.Clock.{Typed}
+use Rattle.steady.proofs.Clock.{tick-typed}
 use Rattle.steady.proofs.Steady.{Steady, steady-fit}
 use Rattle.advance.specs.Advance.{advanceOf}
 use Rattle.advance.proofs.Arms.{link-stops, sender-stops, sender-full, toggler-stops}
-use Rattle.advance.proofs.Ticks.{begins, goes-steady, stops-there, all-done, as-long, thrice, picked-small}
+use Rattle.advance.proofs.Types.{typed}
+use Rattle.advance.proofs.Ticks.{begins, goes-steady, stops-there, all-done, picked-small}
 use Rattle.advance.proofs.Loop.{Turn, no-turn, link-turn, sender-turn, toggler-turn, owner-small, link-at, link-start, arrive-at, arrive-start, link-stored, sender-stored, toggler-stored}
 use Rattle.advance.proofs.advance.Statement.{statement}
 use Rattle.advance.proofs.advance.Tie as tie
@@ -27,8 +30,7 @@ use Rattle.advance.proofs.advance.Tie as tie
 abbrev Inv-loop : tie.InvT-loop
 Inv-loop n steady st₀ done₀ note₀ st done note =
     (done ≤ n)
-    × (length (st .«on_line») ≡ 512)
-    × (length (st .queue) ≡ 33)
+    × Typed st
     × ((advanceOf (n - done) done note st ≡ advanceOf n 0 emptyRecord st₀) × (steady ≡ true → Steady st))
 
 abbrev μ-loop : tie.MeasureT-loop
@@ -38,7 +40,7 @@ abbrev μ-loop : tie.MeasureT-loop
 fit-known : (p : tie.Joined1 Inv-loop μ-loop) → p .if1 .fit ≡ fit (p .before .before .loop .st)
 fit-known p =
     let l = p .before .before .loop in
-    ⊎-elim (λ x. x .1 ∙ sym (steady-fit (l .st) (l .inv .3 .1 (x .0 .taken) .test))) (λ x. x .2 ∙ x .1 .ensures) (p .if1 .came)
+    ⊎-elim (λ x. x .1 ∙ sym (steady-fit (l .st) (l .inv .2 .1 (x .0 .taken) .test))) (λ x. x .2 ∙ x .1 .ensures) (p .if1 .came)
 
 -- ---- what is known at a point of a turn
 
@@ -72,30 +74,30 @@ arrive-front p = arrive-start _ _ _ (p .before .before .before .before .sender-a
 
 -- the part picked after two places of the queue were stored anew
 picked-at : (w : tie.After-whose-turn Inv-loop μ-loop) (i : ℕ) (x : Queued) (j : ℕ) (y : Queued) (q : Picked) → q ≡ pickOf (set (set (now-at w .queue) i x) j y) → q .part < 33
-picked-at w = picked-small (now-at w .queue) (w .before .before .before .before .before .before .before .loop .inv .2)
+picked-at w = picked-small (now-at w .queue) (w .before .before .before .before .before .before .before .loop .inv .1 .full .queue)
 
 link-picked : (p : tie.After-pick Inv-loop μ-loop) → p .pick .result .part < 33
-link-picked p = picked-at (p .before .before .before .before .before .before .before .before .before .before .before .before .before .before .before .before .before .before .before .before .before .before .before .before) 0 (p .before .before .before .before .before .link-slot .result) _ (p .before .before .sender-slot .result) (p .pick .result) (p .pick .ensures)
+link-picked p = picked-at (p .before .before .before .before .before .before .before .before .before .before .before .before .before .before .before .before .before .before .before .before .before .before .before) 0 (p .before .before .before .before .link-slot .result) _ (p .before .before .sender-slot .result) (p .pick .result) (p .pick .ensures)
 
 sender-picked : (p : tie.After-pick2 Inv-loop μ-loop) → p .pick2 .result .part < 33
-sender-picked p = picked-at (p .before .before .before .before .before .before .before .before .before .before .before .before .before .before .before .before .before .before .before .before .before .before) _ (p .before .before .before .before .before .sender-slot2 .result) 0 (p .before .before .link-slot2 .result) (p .pick2 .result) (p .pick2 .ensures)
+sender-picked p = picked-at (p .before .before .before .before .before .before .before .before .before .before .before .before .before .before .before .before .before .before .before .before .before) _ (p .before .before .before .before .before .sender-slot2 .result) 0 (p .before .before .link-slot2 .result) (p .pick2 .result) (p .pick2 .ensures)
 
 toggler-picked : (p : tie.After-pick3 Inv-loop μ-loop) → p .pick3 .result .part < 33
-toggler-picked p = picked-at (p .before .before .before .before .before .before .before .before .before .before .before .before .before .before .before .before .before .before .before .before) _ (p .before .before .before .before .before .toggler-slot .result) _ (p .before .before .sender-slot3 .result) (p .pick3 .result) (p .pick3 .ensures)
+toggler-picked p = picked-at (p .before .before .before .before .before .before .before .before .before .before .before .before .before .before .before .before .before .before) _ (p .before .before .before .before .toggler-slot .result) _ (p .before .before .sender-slot3 .result) (p .pick3 .result) (p .pick3 .ensures)
 
 -- ---- what a turn comes to
 
 -- the tick is refused or idle: the loop ends
 stopped : (w : tie.After-whose-turn Inv-loop μ-loop) (k : ℕ) → tickOf (now-at w) ≡ unmoved (now-at w) k → (e : TickRecord) → e ≡ emptyRecord
     → record { done = w .before .before .before .before .before .before .before .loop .done; number = k; note = e; simulation = now-at w } ≡ advanceOf (w .before .before .before .before .before .before .before .before .before .before .args .n) 0 emptyRecord (w .before .before .before .before .before .before .before .before .before .before .args .simulation)
-stopped w k t e is = rw is (stops-there _ _ _ (now-at w) (w .before .before .before .before .before .before .loop-test .taken) k t ∙ w .before .before .before .before .before .before .before .loop .inv .3 .0)
+stopped w k t e is = rw is (stops-there _ _ _ (now-at w) (w .before .before .before .before .before .before .loop-test .taken) k t ∙ w .before .before .before .before .before .before .before .loop .inv .2 .0)
 
 -- the tick moves: what the loop keeps, holds again
-moved : (w : tie.After-whose-turn Inv-loop μ-loop) (x : TickRecord) (m : Simulation) → tickOf (now-at w) ≡ ticked (now-at w) (moves x m) → length (m .«on_line») ≡ 512 → length (m .queue) ≡ 33
+moved : (w : tie.After-whose-turn Inv-loop μ-loop) (x : TickRecord) (m : Simulation) → tickOf (now-at w) ≡ ticked (now-at w) (moves x m)
     → Inv-loop (w .before .before .before .before .before .before .before .before .before .before .args .n) (w .before .before .before .before .before .before .before .before .before .is-steady .result) (w .before .before .before .before .before .before .before .before .before .before .args .simulation) 0 (w .before .before .before .before .before .before .before .before .empty-record .result) m (w .before .before .before .before .before .before .before .loop .done + 1) x
-moved w x m t moving queue =
+moved w x m t =
     let l = w .before .before .before .before .before .before .before .loop in
-    let more = w .before .before .before .before .before .before .loop-test .taken in (omega (arith, more), moving, queue, goes-steady _ _ _ (l .st) more x m t _ _ (l .inv .3))
+    let more = w .before .before .before .before .before .before .loop-test .taken in (omega (arith, more), subst (λ (y : Ticked). Typed (y .simulation)) t (tick-typed (l .st) (l .inv .1)), goes-steady _ _ _ (l .st) more x m t _ _ (l .inv .2))
 
 -- ---- the needs, in the order of the code
 
@@ -109,14 +111,8 @@ loop-holds : tie.Need-loop-holds Inv-loop μ-loop
 loop-holds c =
     let start = c .before .before in
     let s = start .args .simulation in
-    let waiting : length (s .waiting) ≡ 512 = simp length-map at (start .good .0 .1 .1 .1 .1 .1 .0 .1 .0 .1) in
-    let moving : length (s .«on_line») ≡ 512 = simp length-map at (start .good .0 .1 .1 .1 .1 .1 .1 .0 .1 .0 .1) in
-    let senders : length (s .senders) ≡ 16 = simp length-map at (start .good .0 .1 .1 .1 .1 .1 .1 .1 .0 .1 .0 .1) in
-    let togglers : length (s .togglers) ≡ 16 = simp length-map at (start .good .0 .1 .1 .1 .1 .1 .1 .1 .1 .0 .1 .0 .1) in
-    let meters : length (s .meters) ≡ 16 = simp length-map at (start .good .0 .1 .1 .1 .1 .1 .1 .1 .1 .1 .0 .1 .0 .1) in
-    let queue : length (s .queue) ≡ 33 = simp length-map at (start .good .0 .1 .1 .1 .1 .1 .1 .1 .1 .1 .1 .0 .1 .0 .1) in
-    let full : Full s = record { waiting = waiting; moving = moving; senders = senders; togglers = togglers; meters = meters; queue = queue } in
-    (omega arith, moving, queue, (begins _ _ _ (c .empty-record .ensures), λ e. record { test = sym (c .before .is-steady .ensures) ∙ e; full = full }))
+    let y : Typed s = typed s _ (start .good .0) in
+    (omega arith, y, (begins _ _ _ (c .empty-record .ensures), λ e. record { test = sym (c .before .is-steady .ensures) ∙ e; typed = y }))
 
 is-fit-requires : tie.Need-is-fit-requires Inv-loop μ-loop
 is-fit-requires c κs = search needs
@@ -223,32 +219,26 @@ link-slot-requires c κs = search needs
 element-set-from-link-slot : tie.Need-element-set-from-link-slot Inv-loop μ-loop
 element-set-from-link-slot c = omega arith
 
-mul-sender-after : tie.Need-mul-sender-after Inv-loop μ-loop
-mul-sender-after c = omega (arith, owner-known (c .before .before .before .before .before .before .before .before .before .before .before))
-
-element-copy-out-sender-after : tie.Need-element-copy-out-sender-after Inv-loop μ-loop
-element-copy-out-sender-after c = owner-known (c .before .before .before .before .before .before .before .before .before .before .before)
-
 mul-place : tie.Need-mul-place Inv-loop μ-loop
-mul-place c = omega (arith, owner-known (c .before .before .before .before .before .before .before .before .before .before .before .before))
+mul-place c = omega (arith, owner-known (c .before .before .before .before .before .before .before .before .before .before .before))
 
 add-place : tie.Need-add-place Inv-loop μ-loop
-add-place c = omega (arith, owner-known (c .before .before .before .before .before .before .before .before .before .before .before .before))
+add-place c = omega (arith, owner-known (c .before .before .before .before .before .before .before .before .before .before .before))
 
 mul-old-sender : tie.Need-mul-old-sender Inv-loop μ-loop
-mul-old-sender c = omega (arith, owner-known (c .before .before .before .before .before .before .before .before .before .before .before .before))
+mul-old-sender c = omega (arith, owner-known (c .before .before .before .before .before .before .before .before .before .before .before))
 
 element-copy-out-old-sender : tie.Need-element-copy-out-old-sender Inv-loop μ-loop
-element-copy-out-old-sender c = omega (arith, owner-known (c .before .before .before .before .before .before .before .before .before .before .before .before))
+element-copy-out-old-sender c = omega (arith, owner-known (c .before .before .before .before .before .before .before .before .before .before .before))
 
 sender-slot-requires : tie.Need-sender-slot-requires Inv-loop μ-loop
 sender-slot-requires c κs = search needs
 
 mul-sender-slot : tie.Need-mul-sender-slot Inv-loop μ-loop
-mul-sender-slot c = omega (arith, owner-known (c .before .before .before .before .before .before .before .before .before .before .before .before .before .before))
+mul-sender-slot c = omega (arith, owner-known (c .before .before .before .before .before .before .before .before .before .before .before .before .before))
 
 element-set-from-sender-slot : tie.Need-element-set-from-sender-slot Inv-loop μ-loop
-element-set-from-sender-slot c = omega (arith, owner-known (c .before .before .before .before .before .before .before .before .before .before .before .before .before .before))
+element-set-from-sender-slot c = omega (arith, owner-known (c .before .before .before .before .before .before .before .before .before .before .before .before .before))
 
 pick-requires : tie.Need-pick-requires Inv-loop μ-loop
 pick-requires c κs = search needs
@@ -275,10 +265,10 @@ link-note-requires : tie.Need-link-note-requires Inv-loop μ-loop
 link-note-requires c κs = search needs
 
 add-done : tie.Need-add-done Inv-loop μ-loop
-add-done c = let w = c .before .before .before .before .before .before .before .before .before .before .before .before .before .before .before .before .before .before .before .before .before .before .before .before .before .before .before .before in omega (arith, w .before .before .before .before .before .before .loop-test .taken, w .before .before .before .before .before .before .before .before .before .before .fits .n .fits)
+add-done c = let w = c .before .before .before .before .before .before .before .before .before .before .before .before .before .before .before .before .before .before .before .before .before .before .before .before .before .before .before in omega (arith, w .before .before .before .before .before .before .loop-test .taken, w .before .before .before .before .before .before .before .before .before .before .fits .n .fits)
 
 loop-less : tie.Need-loop-less Inv-loop μ-loop
-loop-less c = let w = c .before .before .before .before .before .before .before .before .before .before .before .before .before .before .before .before .before .before .before .before .before .before .before .before .before .before .before .before in omega (arith, w .before .before .before .before .before .before .loop-test .taken)
+loop-less c = let w = c .before .before .before .before .before .before .before .before .before .before .before .before .before .before .before .before .before .before .before .before .before .before .before .before .before .before .before in omega (arith, w .before .before .before .before .before .before .loop-test .taken)
 
 loop-again : tie.Need-loop-again Inv-loop μ-loop
 loop-again c =
@@ -286,7 +276,7 @@ loop-again c =
     let at-place-after = at-head-of .before in
     let at-pick = at-place-after .before .before in
     let at-sender-slot = at-pick .before .before in
-    let at-link-slot = at-sender-slot .before .before .before in
+    let at-link-slot = at-sender-slot .before .before in
     let at-on-line-at = at-link-slot .before .before .before in
     let at-hear = at-on-line-at .before .before .before .before in
     let at-owner = at-hear .before .before .before .before in
@@ -295,10 +285,9 @@ loop-again c =
     let w = e .before .before in
     let l = w .before .before .before .before .before .before .before .loop in
     moved w _ _
-    (link-stored (l .st) (at-owner .owner .result) (at-owner .owner .ensures) (l .inv .1) (link-known e) (at-link-acts .link-acts .result) (at-link-acts .link-acts .ensures) (at-owner .before .if2 .left) (at-hear .hear .result) (at-hear .hear .ensures)
+    (link-stored (l .st) (l .inv .1 .full) (at-owner .owner .result) (at-owner .owner .ensures) (link-known e) (at-link-acts .link-acts .result) (at-link-acts .link-acts .ensures) (at-owner .before .if2 .left) (at-hear .hear .result) (at-hear .hear .ensures)
     (at-on-line-at .on-line-at .result) (at-on-line-at .on-line-at .ensures) (at-link-slot .link-slot .result) (at-link-slot .link-slot .ensures) (at-sender-slot .sender-slot .result) (at-sender-slot .sender-slot .ensures)
     (at-pick .pick .result) (at-pick .pick .ensures) (at-place-after .place-after .result) (at-place-after .place-after .ensures) (at-head-of .head-of .result) (at-head-of .head-of .ensures) (c .link-note .result) (c .link-note .ensures))
-    (as-long (l .st .«on_line») 512 (l .inv .1) _ _) (thrice (l .st .queue) (l .inv .2) _ _ _ _ _ _)
 
 enum-known-now-2 : tie.Need-enum-known-now-2 Inv-loop μ-loop
 enum-known-now-2 c = search needs
@@ -359,38 +348,32 @@ mul-sent c = omega (arith, sender-known (c .before .before .before .before .befo
 element-set-from-sent : tie.Need-element-set-from-sent Inv-loop μ-loop
 element-set-from-sent c = sender-known (c .before .before .before .before .before .before .before .before .before .before .before .before) .below
 
-mul-sender-after-2 : tie.Need-mul-sender-after-2 Inv-loop μ-loop
-mul-sender-after-2 c = omega (arith, sender-known (c .before .before .before .before .before .before .before .before .before .before .before .before) .below)
-
-element-copy-out-sender-after-2 : tie.Need-element-copy-out-sender-after-2 Inv-loop μ-loop
-element-copy-out-sender-after-2 c = sender-known (c .before .before .before .before .before .before .before .before .before .before .before .before) .below
-
 mul-place-2 : tie.Need-mul-place-2 Inv-loop μ-loop
-mul-place-2 c = omega (arith, sender-known (c .before .before .before .before .before .before .before .before .before .before .before .before .before) .below)
+mul-place-2 c = omega (arith, sender-known (c .before .before .before .before .before .before .before .before .before .before .before .before) .below)
 
 add-place-2 : tie.Need-add-place-2 Inv-loop μ-loop
-add-place-2 c = omega (arith, sender-known (c .before .before .before .before .before .before .before .before .before .before .before .before .before) .below)
+add-place-2 c = omega (arith, sender-known (c .before .before .before .before .before .before .before .before .before .before .before .before) .below)
 
 mul-old-sender-2 : tie.Need-mul-old-sender-2 Inv-loop μ-loop
-mul-old-sender-2 c = omega (arith, sender-known (c .before .before .before .before .before .before .before .before .before .before .before .before .before) .below)
+mul-old-sender-2 c = omega (arith, sender-known (c .before .before .before .before .before .before .before .before .before .before .before .before) .below)
 
 element-copy-out-old-sender-2 : tie.Need-element-copy-out-old-sender-2 Inv-loop μ-loop
-element-copy-out-old-sender-2 c = omega (arith, sender-known (c .before .before .before .before .before .before .before .before .before .before .before .before .before) .below)
+element-copy-out-old-sender-2 c = omega (arith, sender-known (c .before .before .before .before .before .before .before .before .before .before .before .before) .below)
 
 sender-slot-requires-2 : tie.Need-sender-slot-requires-2 Inv-loop μ-loop
 sender-slot-requires-2 c κs = search needs
 
 mul-sender-slot-2 : tie.Need-mul-sender-slot-2 Inv-loop μ-loop
-mul-sender-slot-2 c = omega (arith, sender-known (c .before .before .before .before .before .before .before .before .before .before .before .before .before .before .before) .below)
+mul-sender-slot-2 c = omega (arith, sender-known (c .before .before .before .before .before .before .before .before .before .before .before .before .before .before) .below)
 
 element-set-from-sender-slot-2 : tie.Need-element-set-from-sender-slot-2 Inv-loop μ-loop
-element-set-from-sender-slot-2 c = omega (arith, sender-known (c .before .before .before .before .before .before .before .before .before .before .before .before .before .before .before) .below)
+element-set-from-sender-slot-2 c = omega (arith, sender-known (c .before .before .before .before .before .before .before .before .before .before .before .before .before .before) .below)
 
 mul-front-after-2 : tie.Need-mul-front-after-2 Inv-loop μ-loop
-mul-front-after-2 c = omega (arith, arrive-front (c .before .before .before .before .before .before .before .before))
+mul-front-after-2 c = omega (arith, arrive-front (c .before .before .before .before .before .before .before))
 
 element-copy-out-front-after-2 : tie.Need-element-copy-out-front-after-2 Inv-loop μ-loop
-element-copy-out-front-after-2 c = arrive-front (c .before .before .before .before .before .before .before .before)
+element-copy-out-front-after-2 c = arrive-front (c .before .before .before .before .before .before .before)
 
 element-copy-out-old-link-2 : tie.Need-element-copy-out-old-link-2 Inv-loop μ-loop
 element-copy-out-old-link-2 c = omega arith
@@ -423,13 +406,13 @@ element-set-from-cleared-2 : tie.Need-element-set-from-cleared-2 Inv-loop μ-loo
 element-set-from-cleared-2 c = sender-picked (c .before .before .before)
 
 sender-note-requires : tie.Need-sender-note-requires Inv-loop μ-loop
-sender-note-requires c κs = sender-known (c .before .before .before .before .before .before .before .before .before .before .before .before .before .before .before .before .before .before .before .before .before .before .before) .below
+sender-note-requires c κs = sender-known (c .before .before .before .before .before .before .before .before .before .before .before .before .before .before .before .before .before .before .before .before .before .before) .below
 
 add-done-2 : tie.Need-add-done-2 Inv-loop μ-loop
-add-done-2 c = let w = c .before .before .before .before .before .before .before .before .before .before .before .before .before .before .before .before .before .before .before .before .before .before .before .before .before .before in omega (arith, w .before .before .before .before .before .before .loop-test .taken, w .before .before .before .before .before .before .before .before .before .before .fits .n .fits)
+add-done-2 c = let w = c .before .before .before .before .before .before .before .before .before .before .before .before .before .before .before .before .before .before .before .before .before .before .before .before .before in omega (arith, w .before .before .before .before .before .before .loop-test .taken, w .before .before .before .before .before .before .before .before .before .before .fits .n .fits)
 
 loop-less-2 : tie.Need-loop-less-2 Inv-loop μ-loop
-loop-less-2 c = let w = c .before .before .before .before .before .before .before .before .before .before .before .before .before .before .before .before .before .before .before .before .before .before .before .before .before .before in omega (arith, w .before .before .before .before .before .before .loop-test .taken)
+loop-less-2 c = let w = c .before .before .before .before .before .before .before .before .before .before .before .before .before .before .before .before .before .before .before .before .before .before .before .before .before in omega (arith, w .before .before .before .before .before .before .loop-test .taken)
 
 loop-again-2 : tie.Need-loop-again-2 Inv-loop μ-loop
 loop-again-2 c =
@@ -438,7 +421,7 @@ loop-again-2 c =
     let at-pick = at-place-after .before .before in
     let at-link-slot = at-pick .before .before in
     let at-sender-slot = at-link-slot .before .before .before in
-    let at-waiting-at = at-sender-slot .before .before .before in
+    let at-waiting-at = at-sender-slot .before .before in
     let at-if4 = at-waiting-at .before .before .before in
     let at-arrive = at-if4 .before .before in
     let at-if3 = at-arrive .before .before in
@@ -447,10 +430,9 @@ loop-again-2 c =
     let w = e .before .before in
     let l = w .before .before .before .before .before .before .before .loop in
     moved w _ _
-    (sender-stored (l .st) _ (sender-known e) (at-sender-acts .sender-acts .result) (at-sender-acts .sender-acts .ensures) (at-if3 .if3 .left) (at-arrive .arrive .result) (at-arrive .arrive .ensures) (at-if4 .if4 .left)
+    (sender-stored (l .st) (l .inv .1 .full) _ (sender-known e) (at-sender-acts .sender-acts .result) (at-sender-acts .sender-acts .ensures) (at-if3 .if3 .left) (at-arrive .arrive .result) (at-arrive .arrive .ensures) (at-if4 .if4 .left)
     (at-waiting-at .waiting-at .result) (at-waiting-at .waiting-at .ensures) (at-sender-slot .sender-slot2 .result) (at-sender-slot .sender-slot2 .ensures) (at-link-slot .link-slot2 .result) (at-link-slot .link-slot2 .ensures)
     (at-pick .pick2 .result) (at-pick .pick2 .ensures) (at-place-after .place-after2 .result) (at-place-after .place-after2 .ensures) (at-head-of .head-of2 .result) (at-head-of .head-of2 .ensures) (c .sender-note .result) (c .sender-note .ensures))
-    (l .inv .1) (thrice (l .st .queue) (l .inv .2) _ _ _ _ _ _)
 
 enum-known-now-3 : tie.Need-enum-known-now-3 Inv-loop μ-loop
 enum-known-now-3 c = search needs
@@ -510,53 +492,41 @@ mul-metered c = omega (arith, toggler-known (c .before .before .before .before .
 element-set-from-metered : tie.Need-element-set-from-metered Inv-loop μ-loop
 element-set-from-metered c = toggler-known (c .before .before .before .before .before .before .before .before .before .before .before) .below
 
-mul-toggler-after : tie.Need-mul-toggler-after Inv-loop μ-loop
-mul-toggler-after c = omega (arith, toggler-known (c .before .before .before .before .before .before .before .before .before .before .before) .below)
-
-element-copy-out-toggler-after : tie.Need-element-copy-out-toggler-after Inv-loop μ-loop
-element-copy-out-toggler-after c = toggler-known (c .before .before .before .before .before .before .before .before .before .before .before) .below
-
 mul-toggler-place : tie.Need-mul-toggler-place Inv-loop μ-loop
-mul-toggler-place c = omega (arith, toggler-known (c .before .before .before .before .before .before .before .before .before .before .before .before) .below)
+mul-toggler-place c = omega (arith, toggler-known (c .before .before .before .before .before .before .before .before .before .before .before) .below)
 
 add-toggler-place : tie.Need-add-toggler-place Inv-loop μ-loop
-add-toggler-place c = omega (arith, toggler-known (c .before .before .before .before .before .before .before .before .before .before .before .before) .below)
+add-toggler-place c = omega (arith, toggler-known (c .before .before .before .before .before .before .before .before .before .before .before) .below)
 
 toggler-slot-requires : tie.Need-toggler-slot-requires Inv-loop μ-loop
 toggler-slot-requires c κs = search needs
 
 mul-toggler-slot : tie.Need-mul-toggler-slot Inv-loop μ-loop
-mul-toggler-slot c = omega (arith, toggler-known (c .before .before .before .before .before .before .before .before .before .before .before .before .before) .below)
+mul-toggler-slot c = omega (arith, toggler-known (c .before .before .before .before .before .before .before .before .before .before .before .before) .below)
 
 element-set-from-toggler-slot : tie.Need-element-set-from-toggler-slot Inv-loop μ-loop
-element-set-from-toggler-slot c = omega (arith, toggler-known (c .before .before .before .before .before .before .before .before .before .before .before .before .before) .below)
-
-mul-sender-after-3 : tie.Need-mul-sender-after-3 Inv-loop μ-loop
-mul-sender-after-3 c = omega (arith, toggler-known (c .before .before .before .before .before .before .before .before .before .before .before .before .before) .below)
-
-element-copy-out-sender-after-3 : tie.Need-element-copy-out-sender-after-3 Inv-loop μ-loop
-element-copy-out-sender-after-3 c = toggler-known (c .before .before .before .before .before .before .before .before .before .before .before .before .before) .below
+element-set-from-toggler-slot c = omega (arith, toggler-known (c .before .before .before .before .before .before .before .before .before .before .before .before) .below)
 
 mul-place-3 : tie.Need-mul-place-3 Inv-loop μ-loop
-mul-place-3 c = omega (arith, toggler-known (c .before .before .before .before .before .before .before .before .before .before .before .before .before .before) .below)
+mul-place-3 c = omega (arith, toggler-known (c .before .before .before .before .before .before .before .before .before .before .before .before) .below)
 
 add-place-3 : tie.Need-add-place-3 Inv-loop μ-loop
-add-place-3 c = omega (arith, toggler-known (c .before .before .before .before .before .before .before .before .before .before .before .before .before .before) .below)
+add-place-3 c = omega (arith, toggler-known (c .before .before .before .before .before .before .before .before .before .before .before .before) .below)
 
 mul-old-sender-3 : tie.Need-mul-old-sender-3 Inv-loop μ-loop
-mul-old-sender-3 c = omega (arith, toggler-known (c .before .before .before .before .before .before .before .before .before .before .before .before .before .before) .below)
+mul-old-sender-3 c = omega (arith, toggler-known (c .before .before .before .before .before .before .before .before .before .before .before .before) .below)
 
 element-copy-out-old-sender-3 : tie.Need-element-copy-out-old-sender-3 Inv-loop μ-loop
-element-copy-out-old-sender-3 c = omega (arith, toggler-known (c .before .before .before .before .before .before .before .before .before .before .before .before .before .before) .below)
+element-copy-out-old-sender-3 c = omega (arith, toggler-known (c .before .before .before .before .before .before .before .before .before .before .before .before) .below)
 
 sender-slot-requires-3 : tie.Need-sender-slot-requires-3 Inv-loop μ-loop
 sender-slot-requires-3 c κs = search needs
 
 mul-sender-slot-3 : tie.Need-mul-sender-slot-3 Inv-loop μ-loop
-mul-sender-slot-3 c = omega (arith, toggler-known (c .before .before .before .before .before .before .before .before .before .before .before .before .before .before .before .before) .below)
+mul-sender-slot-3 c = omega (arith, toggler-known (c .before .before .before .before .before .before .before .before .before .before .before .before .before .before) .below)
 
 element-set-from-sender-slot-3 : tie.Need-element-set-from-sender-slot-3 Inv-loop μ-loop
-element-set-from-sender-slot-3 c = omega (arith, toggler-known (c .before .before .before .before .before .before .before .before .before .before .before .before .before .before .before .before) .below)
+element-set-from-sender-slot-3 c = omega (arith, toggler-known (c .before .before .before .before .before .before .before .before .before .before .before .before .before .before) .below)
 
 pick-requires-3 : tie.Need-pick-requires-3 Inv-loop μ-loop
 pick-requires-3 c κs = search needs
@@ -580,13 +550,13 @@ element-set-from-cleared-3 : tie.Need-element-set-from-cleared-3 Inv-loop μ-loo
 element-set-from-cleared-3 c = toggler-picked (c .before .before .before)
 
 toggler-note-requires : tie.Need-toggler-note-requires Inv-loop μ-loop
-toggler-note-requires c κs = toggler-known (c .before .before .before .before .before .before .before .before .before .before .before .before .before .before .before .before .before .before .before .before .before) .below
+toggler-note-requires c κs = toggler-known (c .before .before .before .before .before .before .before .before .before .before .before .before .before .before .before .before .before .before .before) .below
 
 add-done-3 : tie.Need-add-done-3 Inv-loop μ-loop
-add-done-3 c = let w = c .before .before .before .before .before .before .before .before .before .before .before .before .before .before .before .before .before .before .before .before .before .before .before .before in omega (arith, w .before .before .before .before .before .before .loop-test .taken, w .before .before .before .before .before .before .before .before .before .before .fits .n .fits)
+add-done-3 c = let w = c .before .before .before .before .before .before .before .before .before .before .before .before .before .before .before .before .before .before .before .before .before .before in omega (arith, w .before .before .before .before .before .before .loop-test .taken, w .before .before .before .before .before .before .before .before .before .before .fits .n .fits)
 
 loop-less-3 : tie.Need-loop-less-3 Inv-loop μ-loop
-loop-less-3 c = let w = c .before .before .before .before .before .before .before .before .before .before .before .before .before .before .before .before .before .before .before .before .before .before .before .before in omega (arith, w .before .before .before .before .before .before .loop-test .taken)
+loop-less-3 c = let w = c .before .before .before .before .before .before .before .before .before .before .before .before .before .before .before .before .before .before .before .before .before .before in omega (arith, w .before .before .before .before .before .before .loop-test .taken)
 
 loop-again-3 : tie.Need-loop-again-3 Inv-loop μ-loop
 loop-again-3 c =
@@ -594,8 +564,8 @@ loop-again-3 c =
     let at-place-after = at-head-of .before in
     let at-pick = at-place-after .before .before in
     let at-sender-slot = at-pick .before .before in
-    let at-toggler-slot = at-sender-slot .before .before .before in
-    let at-switch = at-toggler-slot .before .before .before in
+    let at-toggler-slot = at-sender-slot .before .before in
+    let at-switch = at-toggler-slot .before .before in
     let at-switched = at-switch .before in
     let at-if5 = at-switched .before .before .before .before in
     let at-toggle = at-if5 .before .before in
@@ -603,15 +573,14 @@ loop-again-3 c =
     let w = e .before .before in
     let l = w .before .before .before .before .before .before .before .loop in
     moved w _ _
-    (toggler-stored (l .st) _ (toggler-known e) (at-toggle .toggle .result) (at-toggle .toggle .ensures) (at-if5 .if5 .left) (at-switched .switched .result) (at-switched .switched .ensures) (at-switch .switch-of .result) (at-switch .switch-of .ensures)
+    (toggler-stored (l .st) (l .inv .1 .full) _ (toggler-known e) (at-toggle .toggle .result) (at-toggle .toggle .ensures) (at-if5 .if5 .left) (at-switched .switched .result) (at-switched .switched .ensures) (at-switch .switch-of .result) (at-switch .switch-of .ensures)
     (at-toggler-slot .toggler-slot .result) (at-toggler-slot .toggler-slot .ensures) (at-sender-slot .sender-slot3 .result) (at-sender-slot .sender-slot3 .ensures)
     (at-pick .pick3 .result) (at-pick .pick3 .ensures) (at-place-after .place-after3 .result) (at-place-after .place-after3 .ensures) (at-head-of .head-of3 .result) (at-head-of .head-of3 .ensures) (c .toggler-note .result) (c .toggler-note .ensures))
-    (l .inv .1) (thrice (l .st .queue) (l .inv .2) _ _ _ _ _ _)
 
 returns-6 : tie.Need-returns-6 Inv-loop μ-loop
 returns-6 c =
     let at-loop = c .before in
-    all-done _ _ _ (at-loop .loop .st) (c .loop-test .left) ∙ at-loop .loop .inv .3 .0
+    all-done _ _ _ (at-loop .loop .st) (c .loop-test .left) ∙ at-loop .loop .inv .2 .0
 
 pub advance-spec : {M : Type 1} → statement M
 advance-spec =
@@ -655,8 +624,6 @@ advance-spec =
     element-copy-out-old-link
     link-slot-requires
     element-set-from-link-slot
-    mul-sender-after
-    element-copy-out-sender-after
     mul-place
     add-place
     mul-old-sender
@@ -691,8 +658,6 @@ advance-spec =
     element-set-from-new-2
     mul-sent
     element-set-from-sent
-    mul-sender-after-2
-    element-copy-out-sender-after-2
     mul-place-2
     add-place-2
     mul-old-sender-2
@@ -734,15 +699,11 @@ advance-spec =
     element-set-from-switched
     mul-metered
     element-set-from-metered
-    mul-toggler-after
-    element-copy-out-toggler-after
     mul-toggler-place
     add-toggler-place
     toggler-slot-requires
     mul-toggler-slot
     element-set-from-toggler-slot
-    mul-sender-after-3
-    element-copy-out-sender-after-3
     mul-place-3
     add-place-3
     mul-old-sender-3

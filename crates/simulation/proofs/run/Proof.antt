@@ -1,5 +1,11 @@
--- The loop is the run, and demand 3 is given on. Assumes nothing.
+-- The loop is the run, and demand 3 is given on; which numbers it gives, and that the clock can't go back, is said of the definition. Assumes nothing.
+use mathlib.Core.Path.{sym, subst}
 use borrow.Author.Needs.{needs}
+use Rattle.remy.specs.declared.simulation.Ran.{Ran}
+use Rattle.remy.specs.Run.{TickNumber}
+use Rattle.remy.proofs.Numbers.{run-number}
+use Rattle.steady.proofs.Clock.{never-back}
+use Rattle.advance.proofs.Types.{typed}
 use Rattle.simulation.proofs.Cases.{run-is}
 use Rattle.simulation.proofs.Reach.{run-account}
 use Rattle.simulation.proofs.run.Statement.{statement}
@@ -11,8 +17,11 @@ advance-requires c κs = search needs
 returns : tie.Need-returns
 returns c =
     let a = c .before .advance in
-    let s = c .before .before .args .simulation in
-    let n = c .before .before .args .n in (run-is n s (a .result) (a .ensures), run-account n s _ (run-is n s (a .result) (a .ensures)))
+    let start = c .before .before in
+    let s = start .args .simulation in
+    let n = start .args .n in
+    let is = run-is n s (a .result) (a .ensures) in
+    (is, run-account n s _ is, subst (λ (r : Ran). TickNumber (r .number)) (sym is) (run-number n s), never-back s (typed s _ (start .good .0)))
 
 pub run-spec : {M : Type 1} → statement M
 run-spec = tie.close (tie.spec advance-requires returns)

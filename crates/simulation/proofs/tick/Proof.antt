@@ -1,10 +1,11 @@
--- One turn of the loop is the tick, demand 3 is given on, and 14 is never met: the clock of a state that code has is a double. Assumes nothing.
-use mathlib.Core.Path.{_∙_, sym, ap}
+-- One turn of the loop is the tick, and demand 3 is given on; which numbers it gives, and that the clock can't go back, is said of the definition. Assumes nothing.
+use mathlib.Core.Path.{sym, subst}
 use borrow.Author.Needs.{needs}
-use lib.Ieee.{binary64, fits}
 use Rattle.remy.specs.declared.simulation.Ticked.{Ticked}
-use Rattle.remy.proofs.Facts.{holds}
-use Rattle.steady.proofs.Never.{never-14}
+use Rattle.remy.specs.Run.{TickNumber}
+use Rattle.remy.proofs.Numbers.{tick-number}
+use Rattle.steady.proofs.Clock.{never-back}
+use Rattle.advance.proofs.Types.{typed}
 use Rattle.simulation.proofs.Cases.{one-tick}
 use Rattle.simulation.proofs.Reach.{tick-account}
 use Rattle.simulation.proofs.tick.Statement.{statement}
@@ -19,8 +20,7 @@ returns c =
     let start = c .before .before .before .before in
     let s = start .args .simulation in
     let is = one-tick s (a .result) (a .ensures) in
-    let double = holds (fits binary64 (s .head .clock .0 .0)) (start .good .0 .1 .1 .1 .0 .1 .1 .0 .1 .1 .0 .1 .1 .0 .1) in
-    (is, tick-account s _ is, λ n. never-14 s double (sym (ap (λ (t : Ticked). t .number) is) ∙ n))
+    (is, tick-account s _ is, subst (λ (t : Ticked). TickNumber (t .number)) (sym is) (tick-number s), never-back s (typed s _ (start .good .0)))
 
 pub tick-spec : {M : Type 1} → statement M
 tick-spec = tie.close (tie.spec advance-requires returns)

@@ -24,10 +24,10 @@ returns-2 : tie.Need-returns-2
 unfolding senderActed
 returns-2 c =
     rw (
-      c .before .tick-timer .ensures,
-      c .before .before .before .before .before .before .state .given .1,
-      ← c .before .before .before .timer-due .ensures,
-      c .before .before .if1 .taken,
+      c .tick-timer .ensures,
+      c .before .before .before .before .before .state .given .1,
+      ← c .before .before .timer-due .ensures,
+      c .before .if1 .taken,
     )
 
 cast-tick-send : tie.Need-cast-tick-send

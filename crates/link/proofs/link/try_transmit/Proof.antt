@@ -27,74 +27,36 @@ returns-2 c =
 div-rate-requires : tie.Need-div-rate-requires
 div-rate-requires c κs = search needs
 
-new-time-requires : tie.Need-new-time-requires
-new-time-requires c κs = search needs
+add-requires : tie.Need-add-requires
+add-requires c κs = search needs
 
-enum-known-free : tie.Need-enum-known-free
-enum-known-free c = search needs
-
-enum-told : tie.Need-enum-told
-enum-told c = search needs
-
-returns-3 : tie.Need-returns-3
-unfolding tryTransmit
-returns-3 c =
-    rw (
-      passed (c .before .before .before .before .before .before .before .is-free .ensures) (c .before .before .before .before .before .before .if1 .left),
-      lt-leb _ _ (c .before .before .before .before .if2 .left),
-      ← c .before .before .before .div-rate .ensures,
-      ← c .before .before .new-time .ensures,
-      c .enum-told .given .1,
-    )
-
-new-time-requires-2 : tie.Need-new-time-requires-2
-new-time-requires-2 c κs = search needs
-
-enum-known-arrives : tie.Need-enum-known-arrives
-enum-known-arrives c = search needs
-
-enum-told-2 : tie.Need-enum-told-2
-enum-told-2 c = search needs
-
-returns-4 : tie.Need-returns-4
-unfolding tryTransmit
-returns-4 c =
-    rw (
-      passed (c .before .before .before .before .before .before .before .before .before .before .before .is-free .ensures) (c .before .before .before .before .before .before .before .before .before .before .if1 .left),
-      lt-leb _ _ (c .before .before .before .before .before .before .before .before .if2 .left),
-      ← c .before .before .before .before .before .before .before .div-rate .ensures,
-      ← c .before .before .before .before .before .before .new-time .ensures,
-      c .before .before .before .before .free .given .1,
-      ← c .before .before .new-time2 .ensures,
-      c .enum-told2 .given .1,
-    )
+add-requires-2 : tie.Need-add-requires-2
+add-requires-2 c κs = search needs
 
 less-requires : tie.Need-less-requires
 less-requires c κs = search needs
 
 pop-requires : tie.Need-pop-requires
 pop-requires c κs =
-    let F = c .before .before .before .before .before .before .before .before .before .before .before .before .before .before .is-free in
-    let waits = free-count _ _ (sym (F .ensures) ∙ not-false (F .result) (c .before .before .before .before .before .before .before .before .before .before .before .before .before .if1 .left)) in
+    let F = c .before .before .before .before .before .before .before .before .is-free in
+    let waits = free-count _ _ (sym (F .ensures) ∙ not-false (F .result) (c .before .before .before .before .before .before .before .if1 .left)) in
     omega (arith, waits)
 
 push-requires : tie.Need-push-requires
 push-requires c κs = search needs
 
-returns-5 : tie.Need-returns-5
+returns-3 : tie.Need-returns-3
 unfolding tryTransmit
-returns-5 c =
+returns-3 c =
     rw (
       c .push .ensures,
       c .before .pop .ensures,
       c .before .before .before .less .ensures,
-      passed (c .before .before .before .before .before .before .before .before .before .before .before .before .before .before .before .before .is-free .ensures) (c .before .before .before .before .before .before .before .before .before .before .before .before .before .before .before .if1 .left),
-      lt-leb _ _ (c .before .before .before .before .before .before .before .before .before .before .before .before .before .if2 .left),
-      ← c .before .before .before .before .before .before .before .before .before .before .before .before .div-rate .ensures,
-      ← c .before .before .before .before .before .before .before .before .before .before .before .new-time .ensures,
-      c .before .before .before .before .before .before .before .before .before .free .given .1,
-      ← c .before .before .before .before .before .before .before .new-time2 .ensures,
-      c .before .before .before .before .before .arrives .given .1,
+      c .before .before .before .before .add2 .ensures,
+      c .before .before .before .before .before .add .ensures,
+      c .before .before .before .before .before .before .div-rate .ensures,
+      passed (c .before .before .before .before .before .before .before .before .before .before .is-free .ensures) (c .before .before .before .before .before .before .before .before .before .if1 .left),
+      lt-leb _ _ (c .before .before .before .before .before .before .before .if2 .left),
     )
 
 pub try-transmit-spec : {M : Type 1} → statement M
@@ -105,15 +67,9 @@ try-transmit-spec =
     returns
     returns-2
     div-rate-requires
-    new-time-requires
-    enum-known-free
-    enum-told
-    returns-3
-    new-time-requires-2
-    enum-known-arrives
-    enum-told-2
-    returns-4
+    add-requires
+    add-requires-2
     less-requires
     pop-requires
     push-requires
-    returns-5)
+    returns-3)

@@ -1,5 +1,4 @@
--- Each return rewrites by the case and the test that led there. Assumes nothing.
-use borrow.Author.Tests.{eq-eqb, ne-eqb}
+-- Each arm rewrites by its case. Assumes nothing.
 use Rattle.sender.specs.Sender.{tickTimer}
 use borrow.Author.Needs.{needs}
 use Rattle.sender.proofs.lossy.Enabled.tick_timer.Statement.{statement}
@@ -17,34 +16,24 @@ enum-known-policy c = search needs
 timer-in-requires : tie.Need-timer-in-requires
 timer-in-requires c κs = search needs
 
-returns : tie.Need-returns
-unfolding tickTimer
-returns c =
-    rw (
-      c .before .before .before .before .policy .given .1,
-      ← c .before .before .timer-in .ensures,
-      ne-eqb _ _ (c .if1 .taken),
-    )
-
 halved-requires : tie.Need-halved-requires
 halved-requires c κs = search needs
 
+returns : tie.Need-returns
+unfolding tickTimer
+returns c = rw (c .enum-told .given .1)
+
 returns-2 : tie.Need-returns-2
 unfolding tickTimer
-returns-2 c = rw (c .enum-told .given .1)
+returns-2 c = rw (c .enum-told2 .given .1)
 
 returns-3 : tie.Need-returns-3
 unfolding tickTimer
-returns-3 c = rw (c .enum-told2 .given .1)
-
-returns-4 : tie.Need-returns-4
-unfolding tickTimer
-returns-4 c =
+returns-3 c =
     rw (
       c .halved .ensures,
-      c .before .before .before .before .before .policy .given .1,
-      ← c .before .before .before .timer-in .ensures,
-      eq-eqb _ _ (c .before .if1 .left),
+      c .before .timer-in .ensures,
+      c .before .before .before .policy .given .1,
     )
 
 pub tick-timer-spec : {M : Type 1} → statement M
@@ -55,8 +44,7 @@ tick-timer-spec =
     enum-told-2
     enum-known-policy
     timer-in-requires
-    returns
     halved-requires
+    returns
     returns-2
-    returns-3
-    returns-4)
+    returns-3)

@@ -25,35 +25,17 @@ returns c =
       c .enum-told .given .1,
     )
 
-new-time-requires : tie.Need-new-time-requires
-new-time-requires c κs = search needs
-
-enum-known-at : tie.Need-enum-known-at
-enum-known-at c = search needs
-
-enum-told-2 : tie.Need-enum-told-2
-enum-told-2 c = search needs
+add-requires : tie.Need-add-requires
+add-requires c κs = search needs
 
 returns-2 : tie.Need-returns-2
 unfolding toggleOf
 returns-2 c =
     rw (
-      ← c .before .before .before .before .before .before .before .length-of .ensures,
-      ← c .before .before .before .before .before .before .sample-positive .ensures,
-      c .before .before .before .before .drawn .given .1,
-      ← c .before .before .new-time .ensures,
-      c .enum-told2 .given .1,
-    )
-
-returns-3 : tie.Need-returns-3
-unfolding toggleOf
-returns-3 c =
-    rw (
-      ← c .before .before .before .before .before .before .before .before .length-of .ensures,
-      ← c .before .before .before .before .before .before .before .sample-positive .ensures,
-      c .before .before .before .before .before .drawn .given .1,
-      ← c .before .before .before .new-time .ensures,
-      c .before .at .given .1,
+      c .add .ensures,
+      ← c .before .before .before .before .before .length-of .ensures,
+      ← c .before .before .before .before .sample-positive .ensures,
+      c .before .before .drawn .given .1,
     )
 
 pub toggle-spec : {M : Type 1} → statement M
@@ -65,8 +47,5 @@ toggle-spec =
     enum-known-drawn
     enum-told
     returns
-    new-time-requires
-    enum-known-at
-    enum-told-2
-    returns-2
-    returns-3)
+    add-requires
+    returns-2)
