@@ -118,7 +118,7 @@ pub fn no_parts() -> Made
 // The sender and the toggler of each of n indices: two children of the root, in this order, the
 // toggler with its first toggle drawn from the off distribution.
 //
-// The caller shows that there are at most 16.
+// A helper for `builder`, and no entry point: `build` has tested the senders' number.
 pub fn make(n: usize, root: Rng, off: ContinuousDistribution) -> Made
     requires { ⌜ n ≤ 16 ⌝ }
     ensures { λ r. ⌜ toldParts r ≡ populate n 0 root off noParts ⌝ }

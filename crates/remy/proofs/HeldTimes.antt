@@ -64,6 +64,7 @@ use Rattle.remy.proofs.Facts.{FitState, fit-state}
 use Rattle.remy.proofs.Networks.{FitNetwork}
 use Rattle.remy.proofs.Front.{accepted, rings, front-sender}
 use Rattle.remy.proofs.Kept.{at-index, at-set}
+use Rattle.remy.proofs.Full.{full-queue}
 use Rattle.remy.proofs.Outcomes.{OnMoves, on-stopped}
 use Rattle.remy.proofs.Roles.{Real, role-at}
 use Rattle.remy.proofs.Steps.{cond-elim}
@@ -246,7 +247,7 @@ module _ {k : Kinds} {c : Time} (closed : Closed k c) {n : ℕ} where
         record {
           clock = d .clock;
           senders = d .senders;
-          full = record { waiting = d .full .waiting; moving = d .full .moving; senders = d .full .senders; togglers = d .full .togglers; meters = d .full .meters; queue = length-set (m .queue) (partOf role) new ∙ d .full .queue };
+          full = full-queue m (m .head) _ (length-set (m .queue) (partOf role) new ∙ d .full .queue) (d .full);
           ring = d .ring;
           free = d .free;
           due = d .due;
@@ -277,13 +278,13 @@ module _ {k : Kinds} {c : Time} (closed : Closed k c) {n : ℕ} where
     landed p None q =
         record {
           clock = closed .last;
-          full = record { waiting = d .full .waiting; moving = d .full .moving; senders = d .full .senders; togglers = d .full .togglers; meters = d .full .meters; queue = d .full .queue };
+          full = full-queue m _ (m .queue) (d .full .queue) (d .full);
           held = held-in _ refl refl refl refl refl (d .queued);
         }
     landed p (Some t) q =
         record {
           clock = q;
-          full = record { waiting = d .full .waiting; moving = d .full .moving; senders = d .full .senders; togglers = d .full .togglers; meters = d .full .meters; queue = length-set (m .queue) (p .part) noQueued ∙ d .full .queue };
+          full = full-queue m _ _ (length-set (m .queue) (p .part) noQueued ∙ d .full .queue) (d .full);
           held = held-in _ refl refl refl refl refl (λ j h. at-set (λ (x : Queued). IfAny (k .queued) (x .time)) noQueued (m .queue) (p .part) noQueued j (d .queued j h) tt);
         }
 

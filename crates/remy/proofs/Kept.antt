@@ -12,15 +12,16 @@ use lib.Dec.{leb, ltb, eqb}
 use lib.ListN.{length, getD, set, length-set}
 use lib.Seq.{getD-set-same, getD-set-other}
 use Rattle.quantities.specs.declared.time.Time.{Time}
-use Rattle.quantities.specs.declared.time.OptionTime.{OptionTime}
 use Rattle.quantities.specs.Units.{spanOf, rateOf, amountOverRate}
 use Rattle.meters.specs.declared.meter.AverageFlowMeter.{AverageFlowMeter}
 use Rattle.sender.specs.declared.lossy.LossySender.{LossySender}
 use Rattle.toggler.specs.declared.toggler.Toggler.{Toggler}
+use Rattle.toggler.specs.declared.tick_queue.Queued.{Queued}
 use Rattle.remy.specs.declared.network.RemyNetwork.{RemyNetwork}
+use Rattle.remy.specs.declared.simulation.Head.{Head}
 use Rattle.remy.specs.declared.simulation.Simulation.{Simulation}
 use Rattle.remy.specs.Network.{between}
-use Rattle.remy.specs.State.{noSender, noMeter, senderAt, meterAt, senderBits, packetBits, withSender, withToggler, withMeter, withQueued}
+use Rattle.remy.specs.State.{noSender, noMeter, senderAt, meterAt, senderBits, packetBits, withHead, withTogglers, withQueue, withSender, withMeter}
 use Rattle.remy.specs.History.{PacketId, Entry, ids}
 use Rattle.remy.specs.Account.{total, ofSender, isPacket}
 use Rattle.remy.proofs.Lists.{map-append, total-append}
@@ -102,22 +103,10 @@ module _ {n : RemyNetwork} {admitted started left sent : List Entry} {counted : 
         meter = k .meter;
       }
 
-  -- a toggler
-  pub keep-toggler : (i : ℕ) (x : Toggler) → Kept n admitted started left sent counted (withToggler s i x)
-  keep-toggler i x =
-      record {
-        network = k .network;
-        senders-full = k .senders-full;
-        meters-full = k .meters-full;
-        line = k .line;
-        sends = k .sends;
-        once = k .once;
-        meter = k .meter;
-      }
-
-  -- a queued time
-  pub keep-queued : (j : ℕ) (t : OptionTime) → Kept n admitted started left sent counted (withQueued s j t)
-  keep-queued j t =
+  -- another head, other togglers and another queue: it reads none of them
+  pub keep-unread : (head : Head) (togglers : List Toggler) (queue : List Queued)
+      → Kept n admitted started left sent counted (withHead (withQueue (withTogglers s togglers) queue) head)
+  keep-unread head togglers queue =
       record {
         network = k .network;
         senders-full = k .senders-full;

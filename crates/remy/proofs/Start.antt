@@ -38,7 +38,7 @@ use Rattle.remy.specs.History.{Fresh}
 use Rattle.remy.specs.HeldTimes.{Full, IfAny, timerOf, Holds, Has}
 use Rattle.remy.specs.Account.{Limited}
 use Rattle.remy.proofs.Plain.{Plain, plain, plain-after, plain-nan, zero-plain}
-use Rattle.remy.proofs.Kept.{all-set, wasSent, Kept}
+use Rattle.remy.proofs.Kept.{all-set, wasSent, Kept, keep-unread}
 use Rattle.remy.proofs.Steps.{cond-elim, keep-picked}
 use Rattle.remy.proofs.HeldTimes.{queued-has}
 use Rattle.remy.proofs.PlainTimes.{plain-closed}
@@ -156,17 +156,8 @@ module _ (n : RemyNetwork) (g : Rng) (p : Parts) (k : NewParts p) where
   built-kept : Kept n [] [] [] [] [] (picked (queuedAll (unqueued n g p)))
   unfolding queuedAll
   built-kept =
-      let u = unqueued-kept in
-      keep-picked {s = withQueue (unqueued n g p) (ownTimes (unqueued n g p) queuePlaces 0)}
-      (record {
-        network = u .network;
-        senders-full = u .senders-full;
-        meters-full = u .meters-full;
-        line = u .line;
-        sends = u .sends;
-        once = u .once;
-        meter = u .meter;
-      })
+      let u = unqueued n g p in
+      keep-picked (keep-unread unqueued-kept (u .head) (u .togglers) (ownTimes u queuePlaces 0))
 
   -- its times are plain, but for the earliest start
   unqueued-plain : Holds plain (unqueued n g p)

@@ -5,6 +5,7 @@ use mathlib.Core.List.{List, [], _∷_, _++_}
 use Prim.Native.Nat.{ℕ, _+_, _-_, _/_, _%_, _<_}
 use borrow.Author.Tests.{ltb-true}
 use lib.Dec.{leb, ltb, eqb}
+use lib.ListN.{set}
 use lib.Ieee.{lt}
 use Rattle.quantities.specs.Doubles.{power}
 use Rattle.link.specs.declared.packet.Packet.{Packet}
@@ -31,8 +32,8 @@ use Rattle.remy.specs.HeldTimes.{Holds}
 use Rattle.remy.proofs.Lines.{entryAt}
 use Rattle.remy.proofs.Plain.{Plain, plain}
 use Rattle.remy.proofs.Facts.{FitState}
-use Rattle.remy.proofs.Networks.{FitNetwork, few-senders}
-use Rattle.remy.proofs.Kept.{Kept, kept-lists, keep-sender, keep-toggler, count-sent}
+use Rattle.remy.proofs.Networks.{few-senders}
+use Rattle.remy.proofs.Kept.{Kept, kept-lists, keep-sender, keep-unread, count-sent}
 use Rattle.remy.proofs.Front.{accepted}
 use Rattle.remy.proofs.Steps.{cond-elim, keep-requeue, keep-picked}
 use Rattle.remy.proofs.Parts.{keep-arrive, keep-switch}
@@ -42,12 +43,6 @@ module _ {adm sts lvs snd : List Entry} {cnt : List PacketId} {s : Simulation} (
     (clock : Plain (s .head .clock)) (held : Holds plain s) (k : Kept (s .network) adm sts lvs snd cnt s) where
   abbrev Good : TickRecord → Simulation → Type 0
   Good = Grown (s .network) adm sts lvs snd cnt
-
-  keep-good : (r : TickRecord) (m : Simulation) → Good r m → Good r (picked m)
-  keep-good r m g = keep-picked g
-
-  ok : FitNetwork (s .network)
-  ok = accepted s f
 
   -- ---- a sender's turn
   module _ (i : ℕ) (h : i < s .network .senders) where
@@ -62,7 +57,7 @@ module _ {adm sts lvs snd : List Entry} {cnt : List PacketId} {s : Simulation} (
 
       sent-kept : Kept (s .network) adm sts lvs (snd ++ (entryAt (s .head .clock) next ∷ [])) cnt after-send
       unfolding after-send next
-      sent-kept = keep-requeue (count-sent k i (enabledSender (senderAt s i) (senderAt s i .«packets_sent» + 1) e) (s .head .clock) h (few-senders ok) refl) (sender i)
+      sent-kept = keep-requeue (count-sent k i (enabledSender (senderAt s i) (senderAt s i .«packets_sent» + 1) e) (s .head .clock) h (few-senders (accepted s f)) refl) (sender i)
 
       -- admitted, dropped full, or refused; the account does not read the record's part
       arrival-good : (part : ℕ) → OnMoves Good (pickAgain (deliver (record { time = s .head .clock; part = part; mark = Mark.None; packet = named next; started = Name.None }) after-send (arrives next)))
@@ -122,7 +117,7 @@ module _ {adm sts lvs snd : List Entry} {cnt : List PacketId} {s : Simulation} (
         cond-elim (λ (x : Toggled). OnMoves Good (outcomeWith (toggler i) (togglerWith s i x))) (eqb (d .number) 0)
         (record { number = 0; toggler = changed }) (record { number = d .number; toggler = t })
         (λ drawn. switch-good (requeue (withToggler s i changed) (toggler i)) (not (t .enabled))
-        (keep-requeue (keep-toggler k i changed) (toggler i)))
+        (keep-requeue (keep-unread k (s .head) (set (s .togglers) i changed) (s .queue)) (toggler i)))
         (λ spent. rw spent (on-stopped Good (toggler i) s (d .number) spent))
 
   -- ---- every turn
