@@ -161,6 +161,12 @@ def script():
     put("E", 2.0)
     for letter, values in (("D", (1.0,)), ("R", (8, 0.5, 1.0)), ("Q", (1.0,))):
         put(letter, *values)
+    title("the state it has, and then the other: new, off, and on since 2; at 1, 2 and 3")
+    for first, same, other in ((("N",), "D", "E"), (("H", 1.0, None, 8, 1, 0.5), "D", "E"), (("H", 1.0, 2.0, 8, 1, 0.5), "E", "D")):
+        for time in (1.0, 2.0, 3.0):
+            put(*first)
+            put(same, time)
+            put(other, time)
     title("time out of range")
     for time in outside + (top, -0.0, 0.0):
         for first in (("N",), ("H", 1.0, None, 8, 1, 0.5), ("H", 1.0, 0.0, 8, 1, 0.5)):

@@ -171,7 +171,7 @@ pub fn advance(simulation: Simulation, n: u32) -> Advanced
                 let sender = st.senders[i];
                 let meter = st.meters[i];
                 let switched = turns::switched(policy, toggled.enabled, sender, clock);
-                let switching = lent::switch_of(meter, toggled.enabled, clock);
+                let switching = lent::switch_lending(meter, toggled.enabled, clock);
                 let metered = switching.meter;
                 st.togglers[i] = toggled;
                 st.senders[i] = switched;

@@ -15,7 +15,7 @@ use quantities::Time;
 // else as it was.
 
 // Switches the meter on or off at a time.
-pub fn switch(meter: &mut AverageFlowMeter, on: bool, time: Time) -> u32
+pub fn switch_lent(meter: &mut AverageFlowMeter, on: bool, time: Time) -> u32
     ensures { λ r. ⌜ (r ≡ switchedOf (now (meter .entry)) on time .number) × (now (meter .exit) ≡ switchedOf (now (meter .entry)) on time .meter) ⌝ }
 {
     let was = *meter;
@@ -35,11 +35,11 @@ pub fn record_lent(meter: &mut AverageFlowMeter, packet: Reception, time: Time) 
 }
 
 // The same changes of a meter by value, which is lent.
-pub fn switch_of(meter: AverageFlowMeter, on: bool, time: Time) -> Metered
+pub fn switch_lending(meter: AverageFlowMeter, on: bool, time: Time) -> Metered
     ensures { λ r. ⌜ r ≡ switchedOf meter on time ⌝ }
 {
     let mut lent = meter;
-    let number = switch(&mut lent, on, time);
+    let number = switch_lent(&mut lent, on, time);
     Metered {
         number,
         meter: lent,

@@ -24,7 +24,7 @@ use flows::Mean;
 use flows::Rtt;
 use lent::average;
 use lent::record_lending;
-use lent::switch_of;
+use lent::switch_lending;
 use meters::AverageFlowMeter;
 use meters::FlowRead;
 use meters::Metered;
@@ -134,7 +134,11 @@ fn emptied(bench: Bench) -> Bench {
 
 // Each prints the answer, and gives the meter after it.
 fn switched(letter: &[u8], meter: AverageFlowMeter, on: bool, time: Time) -> AverageFlowMeter {
-    told(letter, switch_of(meter, on, time), meter.switch(on, time))
+    told(
+        letter,
+        switch_lending(meter, on, time),
+        meter.switch(on, time),
+    )
 }
 
 fn recorded(meter: AverageFlowMeter, packet: Reception, time: Time) -> AverageFlowMeter {

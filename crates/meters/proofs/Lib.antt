@@ -1,2 +1,3 @@
--- Laws that the functions' proofs cite.
+-- Laws that the functions' proofs cite, and that of the one switch.
 mod Fit
+pub mod Switches

@@ -56,7 +56,8 @@ impl AverageFlowMeter {
         }
     }
 
-    // Switches the meter on or off at a time.
+    // Switches the meter on or off at a time; 18 where it has the state asked for. What it gives is what the
+    // Rust's `set_enabled` and `set_disabled` give (specs/Switches).
     pub fn switch(self, on: bool, time: Time) -> Metered
         ensures { λ r. ⌜ r ≡ switchedOf self on time ⌝ }
     {

@@ -471,8 +471,8 @@ element-copy-out-meter-2 c = toggler-known (c .before .before .before .before .b
 switched-requires : tie.Need-switched-requires Inv-loop μ-loop
 switched-requires c κs = search needs
 
-switch-of-requires : tie.Need-switch-of-requires Inv-loop μ-loop
-switch-of-requires c κs = search needs
+switch-lending-requires : tie.Need-switch-lending-requires Inv-loop μ-loop
+switch-lending-requires c κs = search needs
 
 mul-toggled : tie.Need-mul-toggled Inv-loop μ-loop
 mul-toggled c = omega (arith, toggler-known (c .before .before .before .before .before .before .before .before .before .before .before) .below)
@@ -573,7 +573,7 @@ loop-again-3 c =
     let w = e .before .before in
     let l = w .before .before .before .before .before .before .before .loop in
     moved w _ _
-    (toggler-stored (l .st) (l .inv .1 .full) _ (toggler-known e) (at-toggle .toggle .result) (at-toggle .toggle .ensures) (at-if5 .if5 .left) (at-switched .switched .result) (at-switched .switched .ensures) (at-switch .switch-of .result) (at-switch .switch-of .ensures)
+    (toggler-stored (l .st) (l .inv .1 .full) _ (toggler-known e) (at-toggle .toggle .result) (at-toggle .toggle .ensures) (at-if5 .if5 .left) (at-switched .switched .result) (at-switched .switched .ensures) (at-switch .switch-lending .result) (at-switch .switch-lending .ensures)
     (at-toggler-slot .toggler-slot .result) (at-toggler-slot .toggler-slot .ensures) (at-sender-slot .sender-slot3 .result) (at-sender-slot .sender-slot3 .ensures)
     (at-pick .pick3 .result) (at-pick .pick3 .ensures) (at-place-after .place-after3 .result) (at-place-after .place-after3 .ensures) (at-head-of .head-of3 .result) (at-head-of .head-of3 .ensures) (c .toggler-note .result) (c .toggler-note .ensures))
 
@@ -692,7 +692,7 @@ advance-spec =
     mul-meter-2
     element-copy-out-meter-2
     switched-requires
-    switch-of-requires
+    switch-lending-requires
     mul-toggled
     element-set-from-toggled
     mul-switched

@@ -9,14 +9,14 @@ use Rattle.lent.proofs.Thin.{thin-meets}
 use Rattle.meters.proofs.meter.AverageFlowMeter.switch as method
 use Rattle.meters.proofs.meter.AverageFlowMeter.switch.Symbol as callee
 use Rattle.meters.proofs.meter.AverageFlowMeter.switch.Met as known
-use Rattle.lent.proofs.switch.Key as key
-use Rattle.lent.proofs.switch as f
-use Rattle.lent.proofs.switch.Statement.{statement}
-use Rattle.lent.proofs.switch.Code as code
+use Rattle.lent.proofs.switch_lent.Key as key
+use Rattle.lent.proofs.switch_lent as f
+use Rattle.lent.proofs.switch_lent.Statement.{statement}
+use Rattle.lent.proofs.switch_lent.Code as code
 
-pub switch-spec : {M : Type 1} → statement M
+pub switch-lent-spec : {M : Type 1} → statement M
 unfolding code.routine tablesOf
-switch-spec 𝓤 H 𝓜 𝓖 𝓡 =
+switch-lent-spec 𝓤 H 𝓜 𝓖 𝓡 =
     entered 𝓤 H (tripleOf 𝓤 H (𝓖 .A) f.signature (f.spec 𝓤 H (𝓖 .A) (𝓜 .mem) (𝓡 .run)))
     (tables 𝓤 H 𝓜 𝓡 code.env .C) (tables 𝓤 H 𝓜 𝓡 code.env .Λ) key.name code.function (code.unfolded 𝓤 H 𝓜 𝓡)
     (thin-meets truth time switchedOf 𝓤 H (𝓖 .A) (givenOf 𝓤 H 𝓜 𝓖) callee.name
