@@ -9,9 +9,12 @@ use mir.Syntax.{Name, Fn, named, erased, mut, w32, tyInt, tyRef, place, copy, lo
 use mir.Val.{Val, vptr, WT, hasTy}
 use base.Logic.{SProp, ent, sep, emp, via, fst∗, id⊢}
 use base.Fml.{GName, ftrue, fat, flft, flent}
-use prog.Wp.{Heap, Calls, Loops, WpFn, Tables}
+use prog.Wp.{Heap, Calls, Loops, WpFn, Tables, Closed}
+use prog.Model.{Model}
+use prog.Routine.{Routine, Env}
 use ghost.Atoms.{Atoms, sem}
 use contract.Monad.{fact}
+use contract.Running.{Running, GhostRules, givenOf, tables, tablesOf}
 use types.Kit.{Given, ‵, raw, _⊛_, some, given, later, _$_, _∵_, !, qed, by, move, keep, drop, use1, use2, use3, split, join, pick, learn, rewrite, fsplit, fjoin, suffices, frame, await, done}
 use types.Tokens.{lft-new, lft-end}
 use types.Run.{look, init, forget, stop, from, load, of-opd, and-then, no-more, addr, assigns, land, returns, enter, alloc1, alloc0, params1, pass1, pass0, free1, free0}
@@ -32,7 +35,8 @@ use denote.Triple.Statement.{Triple}
 use denote.Triple.Call.{calls-at}
 use denote.Triple.Clauses.{Lasts, closing, ensured, lasts}
 use denote.Triple.Entry.{onEntry}
-use denote.Triple.Spec.{Meets}
+use denote.Triple.Spec.{Meets, tripleOf}
+use denote.Triple.Table.{entered, cited}
 use denote.Triple.Walked.{says, Stays, stay-none, walkOf, AllGo, goes-none, Walks, ends-at, walked, walk-meets}
 use Rattle.meters.specs.declared.meter.AverageFlowMeter.{AverageFlowMeter}
 use Rattle.meters.specs.declared.meter.Metered.{Metered}
@@ -150,7 +154,16 @@ module _ (P Q : Data) (def : AverageFlowMeter → P .Denot → Q .Denot → Mete
     goes : AllGo 𝓤 H A W 0 (by-value P Q def .signature .params) (by-value P Q def .kept) stayed
     goes = (goes-none 𝓤 H A W 0 (λ _. T.the-row) yes (λ κs x f. refl), (goes-none 𝓤 H A W 0 (λ _. rowOf P) yes (λ κs x f. refl), (goes-none 𝓤 H A W 0 (λ _. rowOf Q) yes (λ κs x f. refl), tt)))
 
-    pub lending-meets : (𝓣 : Tables 𝓤 H) → Triple 𝓤 (𝓣 .C g) (Lent P Q def 𝓤 H A)
+    lending-meets : (𝓣 : Tables 𝓤 H) → Triple 𝓤 (𝓣 .C g) (Lent P Q def 𝓤 H A)
         → Meets 𝓤 H A (by-value P Q def .signature) (WpFn 𝓤 H (𝓣 .C) (𝓣 .Λ) (lending P Q g)) (closing 𝓤 H A (by-value P Q def) (by-value-clauses P Q def 𝓤))
     lending-meets 𝓣 known = walk-meets 𝓤 H A (by-value P Q def) stayed W goes (by-value-clauses P Q def 𝓤) (WpFn 𝓤 H (𝓣 .C) (𝓣 .Λ) (lending P Q g)) (WpFn-mono 𝓤 H (W .laws) 𝓣 (lending P Q g))
         (walks (𝓣 .C) (𝓣 .Λ) (fmOf 𝓤 H (W .laws) 𝓣) known)
+
+  -- ---- a function k whose code is `lending`, where the code's calls mean γ and g there is the routine of the lent form
+  module _ {M : Type 1} (𝓤 : URA M) (H : Heap 𝓤) (𝓜 : Model 𝓤 H) (𝓖 : GhostRules 𝓤 H) (𝓡 : Running 𝓤 H 𝓜) (γ : Env) (k g : Name) (r : Routine) where
+    pub lending-entered : Closed 𝓤 H (tables 𝓤 H 𝓜 𝓡 γ .C) (tables 𝓤 H 𝓜 𝓡 γ .Λ) k (lending P Q g) → γ g ≡ r → Triple 𝓤 (𝓡 .run r) (Lent P Q def 𝓤 H (𝓖 .A))
+        → Meets 𝓤 H (𝓖 .A) (by-value P Q def .signature) (𝓡 .run (γ k)) (closing 𝓤 H (𝓖 .A) (by-value P Q def) (by-value-clauses P Q def 𝓤))
+    unfolding tablesOf
+    lending-entered closed calls known =
+        entered 𝓤 H (tripleOf 𝓤 H (𝓖 .A) (by-value P Q def .signature) (closing 𝓤 H (𝓖 .A) (by-value P Q def) (by-value-clauses P Q def 𝓤))) (tables 𝓤 H 𝓜 𝓡 γ .C) (tables 𝓤 H 𝓜 𝓡 γ .Λ) k (lending P Q g) closed
+        (lending-meets 𝓤 H (𝓖 .A) (givenOf 𝓤 H 𝓜 𝓖) g (tablesOf 𝓤 H 𝓜 (tables 𝓤 H 𝓜 𝓡 γ)) (cited 𝓤 H (Lent P Q def 𝓤 H (𝓖 .A)) 𝓜 𝓡 γ g r calls known))

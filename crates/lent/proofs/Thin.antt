@@ -9,10 +9,13 @@ use mir.Syntax.{Name, Fn, named, mut, w32, tyInt, tyRef, deref, field, place, co
 use mir.Val.{Val, vint, vptr}
 use base.Logic.{SProp, ent, sep, emp, via, fst∗, snd∗, exE, id⊢}
 use base.Fml.{GName, Lft, Share, ftrue, fat, flft, fobs, fbor}
-use prog.Wp.{Heap, Calls, Loops, WpFn, Tables}
+use prog.Wp.{Heap, Calls, Loops, WpFn, Tables, Closed}
+use prog.Model.{Model}
+use prog.Routine.{Routine, Env}
 use ghost.Atoms.{Atoms, sem}
 use contract.Lifetimes.{Lfts}
 use contract.Monad.{fact}
+use contract.Running.{Running, GhostRules, givenOf, tables, tablesOf}
 use types.Kit.{Given, ‵, raw, _⊛_, some, later, _$_, _∵_, !, qed, by, move, keep, drop, use1, split, join, pick, rewrite, fsplit, fsplit3, fjoin, fjoin3, feqI, suffices, frame, await, done}
 use types.Run.{look, look-raw, store-raw, init, forget, stop, hop, fld, from, load, of-opd, and-then, no-more, assigns, land, returns, enter, alloc1, alloc0, params1, pass1, pass0, free1, free0}
 use types.Part.{whole, sub, look-in}
@@ -34,6 +37,7 @@ use denote.Triple.Call.{calls-at}
 use denote.Triple.Clauses.{Clauses, Ended, Lasts, AtExit, atExit, closing, ensured, lasts}
 use denote.Triple.Entry.{Args, onEntry}
 use denote.Triple.Spec.{Meets, tripleOf}
+use denote.Triple.Table.{entered, cited}
 use denote.Triple.Weaken.{weaken}
 use denote.Triple.Walked.{says, Stays, stay-ref, stay-none, walkOf, AllGo, goes-none, goes-ref, Walks, ends-at, walked, walk-meets}
 use Rattle.meters.specs.declared.meter.AverageFlowMeter.{AverageFlowMeter}
@@ -94,6 +98,17 @@ module _ (P Q : Data) (def : AverageFlowMeter → P .Denot → Q .Denot → Mete
 
   abbrev method-clauses : {M : Type 1} (𝓤 : URA M) → Clause 𝓤 → Clauses 𝓤 by-value
   method-clauses 𝓤 Answers κs a = record { ghost = Unit {0}; requires = λ _. emp 𝓤; ensures = Answers κs a }
+
+  -- what the function's own contract says, and that the answer and the meter after it give it
+  abbrev Said : {M : Type 1} → URA M → Type 2
+  Said 𝓤 = (κs : Lfts 1) (a : Args (lent .signature) κs) → Unit {0} → ℕ → AtExit lent κs → SProp 𝓤
+
+  abbrev Told : {M : Type 1} (𝓤 : URA M) → Said 𝓤 → Type 1
+  Told 𝓤 Says = (κs : Lfts 1) (a : Args (lent .signature) κs) (n : ℕ) (ws : Lasts lent κs a)
+      → ent 𝓤 (fact 𝓤 ((n ≡ def (now (a .0)) (a .1 .0) (a .1 .1 .0) .number) × (ws .0 ≡ def (now (a .0)) (a .1 .0) (a .1 .1 .0) .meter))) (Says κs a tt n (atExit lent κs a ws))
+
+  abbrev said-clauses : {M : Type 1} (𝓤 : URA M) → Said 𝓤 → Clauses 𝓤 lent
+  said-clauses 𝓤 Says κs a = record { ghost = Unit {0}; requires = λ _. emp 𝓤; ensures = Says κs a }
 
   module _ {M : Type 1} (𝓤 : URA M) (H : Heap 𝓤) (A : Atoms 𝓤) where
     abbrev Method : Clause 𝓤 → Contract 𝓤
@@ -177,11 +192,19 @@ module _ (P Q : Data) (def : AverageFlowMeter → P .Denot → Q .Denot → Mete
     goes = (goes-ref 𝓤 H A W 1 0 tt (plain (λ _. T.the-row)), (goes-none 𝓤 H A W 1 (λ _. rowOf P) yes (λ κs x f. refl), (goes-none 𝓤 H A W 1 (λ _. rowOf Q) yes (λ κs x f. refl), tt)))
 
     -- what the function's own contract says follows from the answer
-    module _ (Says : (κs : Lfts 1) (a : Args (lent .signature) κs) → Unit {0} → ℕ → AtExit lent κs → SProp 𝓤)
-        (says-so : (κs : Lfts 1) (a : Args (lent .signature) κs) (n : ℕ) (ws : Lasts lent κs a)
-        → ent 𝓤 (fact 𝓤 ((n ≡ def (now (a .0)) (a .1 .0) (a .1 .1 .0) .number) × (ws .0 ≡ def (now (a .0)) (a .1 .0) (a .1 .1 .0) .meter))) (Says κs a tt n (atExit lent κs a ws))) where
-      pub thin-meets : (𝓣 : Tables 𝓤 H) → Triple 𝓤 (𝓣 .C g) (Method 𝓤 H A Answers)
-          → Meets 𝓤 H A (lent .signature) (WpFn 𝓤 H (𝓣 .C) (𝓣 .Λ) (thin P Q g)) (closing 𝓤 H A lent (λ κs a. record { ghost = Unit {0}; requires = λ _. emp 𝓤; ensures = Says κs a }))
+    module _ (Says : Said 𝓤) (says-so : Told 𝓤 Says) where
+      thin-meets : (𝓣 : Tables 𝓤 H) → Triple 𝓤 (𝓣 .C g) (Method 𝓤 H A Answers) → Meets 𝓤 H A (lent .signature) (WpFn 𝓤 H (𝓣 .C) (𝓣 .Λ) (thin P Q g)) (closing 𝓤 H A lent (said-clauses 𝓤 Says))
       thin-meets 𝓣 known =
           weaken 𝓤 H A lent W (lent-clauses 𝓤) Says (λ κs a _ n ws. says-so κs a n ws) (WpFn 𝓤 H (𝓣 .C) (𝓣 .Λ) (thin P Q g)) (WpFn-mono 𝓤 H (W .laws) 𝓣 (thin P Q g))
           (walk-meets 𝓤 H A lent stayed W goes (lent-clauses 𝓤) (WpFn 𝓤 H (𝓣 .C) (𝓣 .Λ) (thin P Q g)) (WpFn-mono 𝓤 H (W .laws) 𝓣 (thin P Q g)) (walks (𝓣 .C) (𝓣 .Λ) (fmOf 𝓤 H (W .laws) 𝓣) known))
+
+  -- ---- a function k whose code is `thin`, where the code's calls mean γ and g there is the method's routine
+  module _ {M : Type 1} (𝓤 : URA M) (H : Heap 𝓤) (𝓜 : Model 𝓤 H) (𝓖 : GhostRules 𝓤 H) (𝓡 : Running 𝓤 H 𝓜) (γ : Env) (k g : Name) (r : Routine) where
+    pub thin-entered : Closed 𝓤 H (tables 𝓤 H 𝓜 𝓡 γ .C) (tables 𝓤 H 𝓜 𝓡 γ .Λ) k (thin P Q g) → γ g ≡ r
+        → (Answers : Clause 𝓤) → Defined 𝓤 Answers → Triple 𝓤 (𝓡 .run r) (Method 𝓤 H (𝓖 .A) Answers)
+        → (Says : Said 𝓤) → Told 𝓤 Says → Meets 𝓤 H (𝓖 .A) (lent .signature) (𝓡 .run (γ k)) (closing 𝓤 H (𝓖 .A) lent (said-clauses 𝓤 Says))
+    unfolding tablesOf
+    thin-entered closed calls Answers answers known Says says-so =
+        entered 𝓤 H (tripleOf 𝓤 H (𝓖 .A) (lent .signature) (closing 𝓤 H (𝓖 .A) lent (said-clauses 𝓤 Says))) (tables 𝓤 H 𝓜 𝓡 γ .C) (tables 𝓤 H 𝓜 𝓡 γ .Λ) k (thin P Q g) closed
+        (thin-meets 𝓤 H (𝓖 .A) (givenOf 𝓤 H 𝓜 𝓖) g Answers answers Says says-so (tablesOf 𝓤 H 𝓜 (tables 𝓤 H 𝓜 𝓡 γ))
+        (cited 𝓤 H (Method 𝓤 H (𝓖 .A) Answers) 𝓜 𝓡 γ g r calls known))

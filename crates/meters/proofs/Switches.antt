@@ -6,18 +6,13 @@ use lib.Ieee.{le}
 use Rattle.quantities.specs.declared.time.Time.{Time}
 use Rattle.quantities.specs.declared.time.OptionTime.{OptionTime}
 use Rattle.quantities.specs.declared.time.OptionTime.the-variants.{None, Some}
-use Rattle.quantities.specs.Doubles.{zeroF, power, inRange}
 use Rattle.meters.specs.declared.meter.AverageFlowMeter.{AverageFlowMeter}
 use Rattle.meters.specs.declared.meter.Metered.{Metered}
-use Rattle.meters.specs.Meter.{meterFit, notBefore, ready, taken, unchanged, isOn, turned, switchedOf}
+use Rattle.meters.specs.Meter.{notBefore, withinLimits, ready, taken, unchanged, isOn, turned, switchedOf}
 use Rattle.meters.specs.Switches.{Timer, timerEnable, timerDisable, answered, SwitchedOn, SwitchedOff}
 
--- the tests that the one switch and the two have in common
-abbrev fine : AverageFlowMeter → Time → Bool
-fine m t = meterFit m && inRange zeroF (power 41) (t .0 .0)
-
 module _ (m : AverageFlowMeter) (t : Time) where
-  -- the one switch and one of the two, at any outcome of those tests and any start
+  -- the one switch and one of the two, at any start, whether meter and time are within their limits or not
   abbrev switched : Bool → Bool → OptionTime → Metered
   switched on pass start = cond (pass && notBefore start t && not (Bool·beq on (isOn start))) (taken (turned m start t)) (unchanged m)
 
@@ -44,8 +39,8 @@ module _ (m : AverageFlowMeter) (t : Time) where
 
 pub on-as-before : SwitchedOn
 unfolding switchedOf ready
-on-as-before m t = on m t (fine m t) (m .«current_start»)
+on-as-before m t = on m t (withinLimits m t) (m .«current_start»)
 
 pub off-as-before : SwitchedOff
 unfolding switchedOf ready
-off-as-before m t = off m t (fine m t) (m .«current_start»)
+off-as-before m t = off m t (withinLimits m t) (m .«current_start»)

@@ -52,9 +52,13 @@ abbrev pub notBefore : OptionTime → Time → Bool
 notBefore None t = true
 notBefore (Some s) t = le (s .0 .0) (t .0 .0)
 
--- a fit meter, and a time in 0..2^41 that is not before its start
+-- a fit meter, and a time in 0..2^41
+abbrev pub withinLimits : AverageFlowMeter → Time → Bool
+withinLimits m t = meterFit m && inRange zeroF (power 41) (t .0 .0)
+
+-- the same, and the time is not before its start
 unfoldable pub ready : AverageFlowMeter → Time → Bool
-ready m t = meterFit m && inRange zeroF (power 41) (t .0 .0) && notBefore (m .«current_start») t
+ready m t = withinLimits m t && notBefore (m .«current_start») t
 
 -- ---- the calls
 

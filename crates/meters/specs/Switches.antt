@@ -1,24 +1,23 @@
 -- Document 02, K8: what switching a meter gave before. FlowForge's meters.rs has two switches, `set_enabled` and `set_disabled`; here they are, written from that file, with document 01's refusals (row 18 of "Stops"). Definitions only.
 use mathlib.Core.Path.{_≡_}
-use mathlib.Core.Bool.{true, false, _&&_, cond}
+use mathlib.Core.Bool.{true, false, cond}
 use mathlib.Core.Option.{Option, none, some}
 use lib.Ieee.{le}
 use Rattle.quantities.specs.declared.time.Time.{Time}
 use Rattle.quantities.specs.declared.time.OptionTime.{OptionTime}
 use Rattle.quantities.specs.declared.time.OptionTime.the-variants.{None, Some}
 use Rattle.quantities.specs.declared.time_span.TimeSpan.{TimeSpan}
-use Rattle.quantities.specs.Doubles.{zeroF, power, inRange}
 use Rattle.quantities.specs.Units.{since, spanSum}
 use Rattle.meters.specs.declared.meter.AverageFlowMeter.{AverageFlowMeter}
 use Rattle.meters.specs.declared.meter.Metered.{Metered}
-use Rattle.meters.specs.Meter.{meterFit, switchedOf}
+use Rattle.meters.specs.Meter.{withinLimits, switchedOf}
 
 -- ---- `Timer`, which both switches reach through `InfoRateMeter` and which alone they read and change
 pub record Timer : Type 0 where
   pub «total_time» : TimeSpan
   pub «current_start» : OptionTime
 
--- What a call makes of a timer's total time and start; none where it panics. Times compare as document 01's do.
+-- What a call makes of a timer's total time and start; none where it panics. Times compare as document 01's do: the Rust has -0 below 0.
 
 -- `enable`: panics where there is a start; else the time is the start
 abbrev pub timerEnable : TimeSpan → OptionTime → Time → Option Timer
@@ -35,7 +34,7 @@ timerDisable total (Some start) time =
 
 -- a call that document 01 refuses though the Rust does not panic, so that it makes none too: of a held meter that is unfit, or at a time not in 0..2^41
 abbrev pub tested : AverageFlowMeter → Time → Option Timer → Option Timer
-tested m time call = cond (meterFit m && inRange zeroF (power 41) (time .0 .0)) call none
+tested m time call = cond (withinLimits m time) call none
 
 -- a meter with the timer that a call made; where there is none, 18 and the meter as it was
 abbrev pub answered : AverageFlowMeter → Option Timer → Metered

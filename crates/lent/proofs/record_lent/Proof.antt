@@ -1,11 +1,8 @@
 -- The walk that is shared, at a packet, a time and the method `packet_received`. Assumes nothing.
 use base.Logic.{id⊢}
-use contract.Running.{givenOf, tables, tablesOf}
-use denote.Triple.Spec.{tripleOf}
-use denote.Triple.Table.{entered, cited}
 use Rattle.meters.specs.Meter.{receivedOf}
 use Rattle.lent.proofs.Plain.{reception, time}
-use Rattle.lent.proofs.Thin.{thin-meets}
+use Rattle.lent.proofs.Thin.{thin-entered}
 use Rattle.meters.proofs.meter.AverageFlowMeter.packet_received as method
 use Rattle.meters.proofs.meter.AverageFlowMeter.packet_received.Symbol as callee
 use Rattle.meters.proofs.meter.AverageFlowMeter.packet_received.Met as known
@@ -15,12 +12,8 @@ use Rattle.lent.proofs.record_lent.Statement.{statement}
 use Rattle.lent.proofs.record_lent.Code as code
 
 pub record-lent-spec : {M : Type 1} → statement M
-unfolding code.routine tablesOf
+unfolding code.routine
 record-lent-spec 𝓤 H 𝓜 𝓖 𝓡 =
-    entered 𝓤 H (tripleOf 𝓤 H (𝓖 .A) f.signature (f.spec 𝓤 H (𝓖 .A) (𝓜 .mem) (𝓡 .run)))
-    (tables 𝓤 H 𝓜 𝓡 code.env .C) (tables 𝓤 H 𝓜 𝓡 code.env .Λ) key.name code.function (code.unfolded 𝓤 H 𝓜 𝓡)
-    (thin-meets reception time receivedOf 𝓤 H (𝓖 .A) (givenOf 𝓤 H 𝓜 𝓖) callee.name
-    (λ κs a g. method.clauses 𝓤 H (𝓖 .A) (𝓜 .mem) (𝓡 .run) κs a .ensures g) (λ a r ws. id⊢ 𝓤 _)
+    thin-entered reception time receivedOf 𝓤 H 𝓜 𝓖 𝓡 code.env key.name callee.name callee.routine (code.unfolded 𝓤 H 𝓜 𝓡) code.calls-meters·meter·AverageFlowMeter·packet-received
+    (λ κs a g. method.clauses 𝓤 H (𝓖 .A) (𝓜 .mem) (𝓡 .run) κs a .ensures g) (λ a r ws. id⊢ 𝓤 _) (known.met 𝓤 H 𝓜 𝓖 𝓡)
     (λ κs a g. f.clauses 𝓤 H (𝓖 .A) (𝓜 .mem) (𝓡 .run) κs a .ensures g) (λ κs a n ws. id⊢ 𝓤 _)
-    (tablesOf 𝓤 H 𝓜 (tables 𝓤 H 𝓜 𝓡 code.env))
-    (cited 𝓤 H (tripleOf 𝓤 H (𝓖 .A) method.signature (method.spec 𝓤 H (𝓖 .A) (𝓜 .mem) (𝓡 .run))) 𝓜 𝓡 code.env callee.name callee.routine code.calls-meters·meter·AverageFlowMeter·packet-received (known.met 𝓤 H 𝓜 𝓖 𝓡)))
