@@ -2,9 +2,11 @@
 """The recorded held states and the port's program `held`.
 
 held.py stdin             the program's script, as crates/held/stdin has it: the descriptions of
-                          recorded/held.txt and recorded/digest.txt, and the stops of stops.py
+                          recorded/held.txt and recorded/digest.txt, the stops of stops.py, and
+                          recorded runs cut in parts
 held.py stdout            its answers, as crates/held/stdout has them: the Rust's recorded lines, a
-                          digest of the Rust's recorded lines, and what document 01 says
+                          digest of the Rust's recorded lines, what document 01 says, and for the
+                          cut runs the Rust's recorded state after as many ticks
 held.py compare PROGRAM   runs the program on every description of recorded/digest.txt and compares
                           its lines with the Rust's, state lines by their digests
 """
@@ -60,6 +62,67 @@ def digest(text):
     return f"{h:016x}"
 
 
+# ---- runs that join (document 02, K11)
+
+# cut at every place, with the state's line after each
+SHORT = ["example", "stop-8-switched-on", "stop-8-switched-off", "senders-0"]
+# cut at some places, with the digest of that line
+LONG = ["rings-wrap", "stop-12", "stop-13"]
+
+
+class Run:
+    """A recorded run: what its network answers when it is run in parts."""
+
+    def __init__(self, description, rust):
+        self.build = line(description, "B").rsplit(" ", 1)[0]
+        self.ticks = int(description["ticks"])
+        self.clocks = [l.split()[0][len("time="):] for l in rust if l.startswith("time=")]
+        self.moved = len(self.clocks)
+        stop, clock = next(l for l in rust if l.startswith("stop=")).split()
+        self.stop = stop[len("stop="):]
+        self.clocks.append(clock[len("clock="):])
+        self.states = [l for l in rust if l.startswith(("state ", "digest "))]
+
+    def places(self):
+        """Where it is cut: at its ends, about the tick that does not move, in the middle."""
+        near = [0, 1, self.moved // 2, self.moved - 1, self.moved, self.moved + 1, self.ticks - 1, self.ticks]
+        return sorted({m for m in near if 0 <= m <= self.ticks})
+
+    def parts(self, look, parts):
+        """The commands for a run in these parts from the built state, each a letter and a count, and
+        the answers: those of the parts, and the state, which `look` asks for."""
+        commands, answers, done = ["Z"], [], 0
+        for letter, count in parts:
+            more = min(count, self.moved - done)
+            done += more
+            commands.append(stops.command(letter, count))
+            words = {"R": "run", "U": "ticks"}
+            answers.append(f"{words[letter]} {more} {self.stop if more < count else 0} {self.clocks[done]}")
+        return commands + [look], answers + [self.states[done]]
+
+
+def joins():
+    """Of each of those runs: what it is, the commands that run it whole and cut, the answers."""
+    for file, look, names in [("held.txt", "A", SHORT), ("digest.txt", "X", LONG)]:
+        for name, description, rust in cases(file):
+            if name in names:
+                yield f"whole and cut: {name}", *cut(Run(description, rust), look, file == "held.txt")
+
+
+def cut(run, look, everywhere):
+    ways = [[("R", run.ticks)]]
+    ways += [[("R", m), ("R", run.ticks - m)] for m in (range(run.ticks + 1) if everywhere else run.places())]
+    # single ticks and then a run; and eight parts
+    ways.append([("U", run.moved // 2), ("R", run.ticks - run.moved // 2)])
+    ways.append([("R", run.ticks * k // 8 - run.ticks * (k - 1) // 8) for k in range(1, 9)])
+    commands, answers = [run.build, "K"], ["build 0"]
+    for way in ways:
+        asked, answered = run.parts(look, way)
+        commands += asked
+        answers += answered
+    return commands, answers
+
+
 def compare(program):
     same = 0
     differ = []
@@ -82,7 +145,7 @@ def main():
         for name, description, _ in cases("digest.txt"):
             print("#", name)
             print(line(description, "D"))
-        for name, commands, _ in stops.cases():
+        for name, commands, _ in [*stops.cases(), *joins()]:
             print("#", name)
             print("\n".join(commands))
     elif sys.argv[1:] == ["stdout"]:
@@ -90,7 +153,7 @@ def main():
             print("\n".join(rust) + "\n")
         for _, _, rust in cases("digest.txt"):
             print("lines " + digest("\n".join(rust) + "\n"))
-        for _, _, answers in stops.cases():
+        for _, _, answers in [*stops.cases(), *joins()]:
             print("\n".join(answers))
     elif len(sys.argv) == 3 and sys.argv[1] == "compare":
         sys.exit(compare(sys.argv[2]))

@@ -27,7 +27,7 @@ use Rattle.remy.specs.declared.simulation.TickRecord.{TickRecord}
 use Rattle.remy.specs.declared.simulation.Ticked.{Ticked}
 use Rattle.remy.specs.State.{Role, link, sender, toggler, roleOf, noPacket, frontOf, firstOf, waitingItems, totalBits}
 use Rattle.remy.specs.Fit.{ringsFit, bitsFit, fit}
-use Rattle.remy.specs.Tick.{emptyRecord, Outcome, moves, stops, outcomeOf, actsOf, unmoved, ticked, tickNext, tickOf}
+use Rattle.remy.specs.Tick.{emptyRecord, moves, outcomeOf, actsOf, unmoved, ticked, tickNext, tickOf}
 use Rattle.remy.proofs.Facts.{both-l, both-r, fit-state}
 use Rattle.remy.proofs.Networks.{few-senders, few-bits}
 use Rattle.remy.proofs.Front.{accepted, front-sender}
@@ -71,16 +71,6 @@ now-tick s w e = subst (TickAs s) (sym e) (by (fit s) refl)
     by : (b : Bool) → fit s ≡ b → TickAs s (cond b (nowNext (s .head .next) (s .head .clock) (s .network .senders)) (Now.Stop 9))
     by true f = by-next s f (s .head .next) (rw f)
     by false f = rw f
-
--- a tick is refused or idle, or moves
-pub tick-elim : (P : Ticked → Type 0) (s : Simulation) → ((o : Outcome) → P (ticked s o)) → P (tickOf s)
-tick-elim P s each = by (nowOf (fit s) (s .head) (s .network .senders)) (now-tick s _ refl)
-  where
-    by : (w : Now) → TickAs s w → P (tickOf s)
-    by (Now.Stop k) t = subst P (sym t) (each (stops k))
-    by Now.Link t = subst P (sym (t .1)) (each (outcomeOf s link))
-    by (Now.Sender i) t = subst P (sym (t .2)) (each (outcomeOf s (sender i)))
-    by (Now.Toggler i) t = subst P (sym (t .2)) (each (outcomeOf s (toggler i)))
 
 -- ---- the loop's equation
 

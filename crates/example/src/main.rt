@@ -3,7 +3,6 @@
 // Structs go in and come out by value: a tick takes a simulation and answers the one after it.
 ghost use mathlib.Core.Path.{_≡_};
 ghost use Rattle.remy.specs.Build.{buildOf};
-ghost use Rattle.remy.specs.Tick.{tickOf};
 ghost use Rattle.remy.specs.Run.{runOf};
 ghost use Rattle.reading.specs.Flow.{toldFlow, flowOf};
 use flows::Rtt;
@@ -38,12 +37,13 @@ fn network() -> RemyNetwork {
     }
 }
 
-// The flow of sender 0 after seven ticks. The contract says it by the definitions of build, tick, run
-// and flow, for every network and seed; it follows from the contracts of the four calls. Each of the
-// answers has a number too: 0, or why it refused. A refused build gives a simulation without senders,
-// so the read then answers that there is no sender.
+// The flow of sender 0 after seven ticks. The contract says it by the definitions of build, run and
+// flow, for every network and seed; it follows from the contracts of the four calls. `tick` says that it is a
+// run of 1, and `run` that six ticks of what one tick gave are seven ticks: so a run can be stopped
+// and taken up again. Each of the answers has a number too: 0, or why it refused. A refused build gives
+// a simulation without senders, so the read then answers that there is no sender.
 fn flow(network: RemyNetwork, seed: u64) -> SenderFlow
-    ensures { λ r. ⌜ toldFlow r ≡ flowOf (runOf 6 (tickOf (buildOf network seed .simulation) .simulation) .simulation) 0 ⌝ }
+    ensures { λ r. ⌜ toldFlow r ≡ flowOf (runOf 7 (buildOf network seed .simulation) .simulation) 0 ⌝ }
 {
     let built = builder::build(network, seed);
     let start = built.simulation;

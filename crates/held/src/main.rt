@@ -14,7 +14,7 @@
 //     R count                a run: how many ticks, number, clock
 //     U count                so many single ticks, each of the state that the one before returned, or
 //                            until one does not move: how many moved, number, clock
-//     A                      the held state
+//     A, X                   the held state; the digest of that line
 //     F i                    the flow of sender i
 //
 // A number is 16 hexadecimal digits, a double by its bits, an absent value 16 times '-'. A network is
@@ -92,7 +92,7 @@ fn changed(letter: u8, text: &[u8], at: usize, st: Simulation) -> Simulation {
         b'T' => ticked(st),
         b'R' => ran(text, at, st),
         b'U' => stepped(text, at, st),
-        b'A' | b'F' | b'H' | b'D' => {
+        b'A' | b'X' | b'F' | b'H' | b'D' => {
             told(letter, text, at, st);
             st
         }
@@ -186,6 +186,9 @@ fn told(letter: u8, text: &[u8], at: usize, st: Simulation) {
         b'H' => network(printed(), text, at),
         b'D' => summary(text, at),
         b'A' => done(print::state(printed(), st)),
+        b'X' => {
+            digest_line(printed(), st);
+        }
         b'F' => {
             print::flow(printed(), st, narrow(text, at, 0));
         }
@@ -250,7 +253,11 @@ fn state_line(out: Sink, st: Simulation) -> Sink {
         let a = print::state(out, st);
         return put(a, b"\n");
     }
+    digest_line(out, st)
+}
+
+fn digest_line(out: Sink, st: Simulation) -> Sink {
     let line = print::state(folded(), st);
-    let b = hex(put(out, b"digest "), line.digest);
-    put(b, b"\n")
+    let a = hex(put(out, b"digest "), line.digest);
+    put(a, b"\n")
 }

@@ -1,6 +1,7 @@
 -- The lines of a run (document 01, "The text program"), from a record and from a simulation. Definitions only.
 -- A double is written by its bits, and a NaN by 7ff8000000000000.
 use Prim.Native.Nat.{ℕ, zero, suc, _+_, _-_}
+use mathlib.Core.Path.{_≡_}
 use mathlib.Core.Bool.{cond}
 use mathlib.Core.List.{List, [], _∷_, _++_}
 use lib.Dec.{eqb, ltb}
@@ -85,3 +86,7 @@ endLines number s = stopLine number s ∷ flowsFrom s 0
 -- a run of n ticks: the lines of its records, then its end
 unfoldable pub runLines : ℕ → Simulation → List (List ℕ)
 runLines n s = recordLines n s ++ endLines (runOf n s .number) (runOf n s .simulation)
+
+-- Document 02, K11, of the printed records: those of m + n ticks are those of m, then those of n ticks of the state that m ticks gave.
+abbrev pub RecordLinesJoin : Type 0
+RecordLinesJoin = (m n : ℕ) (s : Simulation) → recordLines (m + n) s ≡ recordLines m s ++ recordLines n (runOf m s .simulation)

@@ -19,7 +19,7 @@ use Rattle.remy.specs.Account.{total, ofSender, isPacket, everywhere}
 use Rattle.remy.proofs.Account.{sends-split, everywhere-split, partition}
 use Rattle.points.specs.Refuted.{Says, sent, books, once, starts, leaves}
 
-le-or-lt : (a b : ℕ) → (a ≤ b) ⊎ (b < a)
+pub le-or-lt : (a b : ℕ) → (a ≤ b) ⊎ (b < a)
 le-or-lt a b = by (leb a b) refl
   where
     by : (t : Bool) → leb a b ≡ t → (a ≤ b) ⊎ (b < a)

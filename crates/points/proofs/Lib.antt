@@ -10,3 +10,4 @@ pub mod Once
 pub mod Refuted
 pub mod Rare
 pub mod Clock
+pub mod Joins

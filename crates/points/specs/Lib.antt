@@ -8,3 +8,4 @@ pub mod Counted
 pub mod Refuted
 pub mod Rare
 pub mod Clock
+pub mod Joins

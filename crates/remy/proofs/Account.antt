@@ -74,14 +74,25 @@ tick-elim F s rests goes = cond-elim F (fit s) (tickNext s (s .head .next)) (unm
         (λ late. rests 10)
         (λ early. goes (fit-state s e) early j)
 
+-- every tick is what an outcome gives
+outcome-elim : (F : Ticked → Type 0) (s : Simulation) → ((o : Outcome) → F (ticked s o)) → F (tickOf s)
+outcome-elim F s each = tick-elim F s (λ number. each (stops number)) (λ f early j. each (outcomeOf s (roleOf (s .network .senders) j)))
+
 -- a tick that does not move returns the state that it was given
 pub unmoved-same : (s : Simulation) → tickOf s .moved ≡ false → tickOf s .simulation ≡ s
-unmoved-same s =
-    tick-elim (λ (t : Ticked). t .moved ≡ false → t .simulation ≡ s) s (λ number e. refl) (λ f early j. of-outcome (outcomeOf s (roleOf (s .network .senders) j)))
+unmoved-same s = outcome-elim (λ (t : Ticked). t .moved ≡ false → t .simulation ≡ s) s of-outcome
   where
     of-outcome : (o : Outcome) → ticked s o .moved ≡ false → ticked s o .simulation ≡ s
     of-outcome (stops k) e = refl
     of-outcome (moves x m) e = absurd (true≢false e)
+
+-- a tick that moves has the number 0
+pub moved-zero : (s : Simulation) → tickOf s .moved ≡ true → tickOf s .number ≡ 0
+moved-zero s = outcome-elim (λ (t : Ticked). t .moved ≡ true → t .number ≡ 0) s of-outcome
+  where
+    of-outcome : (o : Outcome) → ticked s o .moved ≡ true → ticked s o .number ≡ 0
+    of-outcome (stops k) e = absurd (true≢false (sym e))
+    of-outcome (moves x m) e = refl
 
 tick-keeps : (h : List TickRecord) (s : Simulation) → KeptAt (s .network) h s → KeptAt (s .network) (h ++ noted (tickOf s) []) (tickOf s .simulation)
 tick-keeps h s k =

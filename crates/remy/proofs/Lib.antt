@@ -25,3 +25,4 @@ pub mod Full
 pub mod Account
 pub mod Names
 pub mod Numbers
+pub mod Joins

@@ -11,3 +11,4 @@ pub mod Run
 pub mod History
 pub mod Account
 pub mod Names
+pub mod Joins

@@ -1,6 +1,6 @@
 -- One tick, and a run, as the loop's cases. Assumes nothing.
 use mathlib.Core.Path.{_≡_, refl, sym, ap, _∙_}
-use mathlib.Core.Bool.{Bool, true, false, cond, true≢false}
+use mathlib.Core.Bool.{Bool, true, false, cond}
 use Prim.Native.Nat.{ℕ, zero, suc, _+_}
 use native.Mathlib.Omega.{arith}
 use native.Mathlib.Nat.{add-zero, zero-add}
@@ -9,34 +9,23 @@ use Rattle.remy.specs.declared.simulation.Simulation.{Simulation}
 use Rattle.remy.specs.declared.simulation.TickRecord.{TickRecord}
 use Rattle.remy.specs.declared.simulation.Ticked.{Ticked}
 use Rattle.remy.specs.declared.simulation.Ran.{Ran}
-use Rattle.remy.specs.Tick.{emptyRecord, Outcome, moves, stops, ticked, tickOf}
+use Rattle.remy.specs.Tick.{emptyRecord, tickOf}
 use Rattle.remy.specs.Run.{oneMore, runOf}
+use Rattle.remy.proofs.Account.{moved-zero}
 use Rattle.advance.specs.declared.Advanced.{Advanced}
 use Rattle.advance.specs.Advance.{advanceOf}
-use Rattle.advance.proofs.Ticks.{tick-elim}
-
--- a tick that moves has the number 0
-abbrev Zero : Ticked → Type 0
-Zero t = t .moved ≡ true → t .number ≡ 0
-
-zero-number : (s : Simulation) → Zero (tickOf s)
-zero-number s = tick-elim Zero s of-outcome
-  where
-    of-outcome : (o : Outcome) → Zero (ticked s o)
-    of-outcome (stops k) e = absurd (true≢false (sym e))
-    of-outcome (moves x m) e = refl
 
 abbrev pub tick-told : Advanced → Ticked
 tick-told a = record { number = a .number; moved = eqb (a .done) 1; note = a .note; simulation = a .simulation }
 
 pub one-tick : (s : Simulation) (a : Advanced) → a ≡ advanceOf 1 0 emptyRecord s → tick-told a ≡ tickOf s
 unfolding advanceOf
-one-tick s a e = ap tick-told e ∙ by (tickOf s) (zero-number s) (tickOf s .moved) refl
+one-tick s a e = ap tick-told e ∙ by (tickOf s) (moved-zero s) (tickOf s .moved) refl
   where
     told : Ticked → Advanced
     told t = cond (t .moved) (record { done = 1; number = 0; note = t .note; simulation = t .simulation }) (record { done = 0; number = t .number; note = t .note; simulation = t .simulation })
 
-    by : (t : Ticked) → Zero t → (b : Bool) → t .moved ≡ b → tick-told (told t) ≡ t
+    by : (t : Ticked) → (t .moved ≡ true → t .number ≡ 0) → (b : Bool) → t .moved ≡ b → tick-told (told t) ≡ t
     by t z true e = rw (e, z e)
     by t z false e = rw e
 

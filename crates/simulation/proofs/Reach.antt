@@ -1,6 +1,5 @@
--- Demand 3 for the states that calls reach: the state after a run is that after so many ticks, and calls and histories append. Assumes nothing.
-use Prim.Native.Nat.{ℕ, zero, suc, _+_}
-use native.Mathlib.Omega.{arith}
+-- Demand 3 for the states that calls reach: calls and histories append, and the state after a run is that after its ticks. Assumes nothing.
+use Prim.Native.Nat.{ℕ}
 use mathlib.Core.Path.{_≡_, refl, sym, ap, subst, _∙_}
 use mathlib.Core.Bool.{Bool, true, false, cond}
 use mathlib.Core.List.{List, [], _∷_, _++_}
@@ -9,10 +8,11 @@ use Rattle.remy.specs.declared.simulation.TickRecord.{TickRecord}
 use Rattle.remy.specs.declared.simulation.Ticked.{Ticked}
 use Rattle.remy.specs.declared.simulation.Ran.{Ran}
 use Rattle.remy.specs.Tick.{tickOf}
-use Rattle.remy.specs.Run.{oneMore, runOf}
+use Rattle.remy.specs.Run.{runOf}
 use Rattle.remy.specs.History.{Call, tick, ticks, called, after, history, noted}
 use Rattle.remy.specs.Account.{Account}
-use Rattle.remy.proofs.Account.{unmoved-same, demand3}
+use Rattle.remy.proofs.Account.{demand3}
+use Rattle.remy.proofs.Joins.{tick-by-tick}
 use Rattle.simulation.specs.Reached.{TickAccount, RunAccount}
 
 -- ---- calls and histories append
@@ -44,22 +44,8 @@ tick-account s r e n s₀ fresh cs reached =
 
 -- ---- a run
 
-run-after : (n : ℕ) (s : Simulation) → after (ticks (runOf n s .done)) s ≡ runOf n s .simulation
-unfolding runOf
-run-after zero s = refl
-run-after (suc n) s = by (tickOf s) (tickOf s .moved) refl refl (λ m. run-after n m)
-  where
-    ran : Ticked → Ran
-    ran t = cond (t .moved) (oneMore (runOf n (t .simulation))) (record { done = 0; number = t .number; simulation = t .simulation })
-
-    by : (t : Ticked) (b : Bool) → tickOf s ≡ t → t .moved ≡ b → ((m : Simulation) → after (ticks (runOf n m .done)) m ≡ runOf n m .simulation) → after (ticks (ran t .done)) s ≡ ran t .simulation
-    by t true e h rest =
-        let more : runOf n (t .simulation) .done + 1 ≡ suc (runOf n (t .simulation) .done) = omega arith in
-        rw (h, more) (ap (λ (x : Ticked). after (ticks (runOf n (t .simulation) .done)) (x .simulation)) e ∙ rest (t .simulation))
-    by t false e h rest = rw h (sym (subst (λ (x : Ticked). x .moved ≡ false → x .simulation ≡ s) e (unmoved-same s) h))
-
 pub run-account : (k : ℕ) (s : Simulation) (r : Ran) → r ≡ runOf k s → RunAccount s r
 run-account k s r e n s₀ fresh cs reached =
     let state : after (cs ++ ticks (r .done)) s₀ ≡ r .simulation =
-    after-append cs (ticks (r .done)) s₀ ∙ ap (after (ticks (r .done))) (sym reached) ∙ ap (λ (x : Ran). after (ticks (x .done)) s) e ∙ run-after k s ∙ ap (λ (x : Ran). x .simulation) (sym e) in
+    after-append cs (ticks (r .done)) s₀ ∙ ap (after (ticks (r .done))) (sym reached) ∙ ap (λ (x : Ran). after (ticks (x .done)) s) e ∙ sym (tick-by-tick k s .state) ∙ ap (λ (x : Ran). x .simulation) (sym e) in
     subst (Account n (history (cs ++ ticks (r .done)) s₀)) state (demand3 n s₀ fresh (cs ++ ticks (r .done)))

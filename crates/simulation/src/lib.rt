@@ -1,18 +1,20 @@
 // The simulation in code: tick and run, equal to their definitions in remy. Both also say demand 3, the
-// account of packets, for every state that calls reach from a build; which numbers they can give; and
-// that the clock cannot go back, in any state that calls reach from the one given.
+// account of packets, for every state that calls reach from a build; which numbers they can give;
+// that the clock cannot go back, in any state that calls reach from the one given; and that runs join:
+// wherever the state given is what m ticks of another gave, n ticks of it are the last n of m + n.
 ghost use mathlib.Core.Path.{_≡_};
 ghost use Rattle.remy.specs.Tick.{tickOf};
 ghost use Rattle.remy.specs.Run.{runOf, TickNumber};
+ghost use Rattle.remy.specs.Joins.{JoinsOn, ranOf, TickByTick};
 ghost use Rattle.steady.specs.Clock.{NeverBack};
 ghost use Rattle.simulation.specs.Reached.{TickAccount, RunAccount};
 use remy::Ran;
 use remy::Simulation;
 use remy::Ticked;
 
-// One tick: 9, idle, 10, or the turn of the next part.
+// One tick: 9, idle, 10, or the turn of the next part. It is a run of 1.
 pub fn tick(simulation: Simulation) -> Ticked
-    ensures { λ r. ⌜ (r ≡ tickOf simulation) × TickAccount simulation r × TickNumber (r .number) × NeverBack simulation ⌝ }
+    ensures { λ r. ⌜ (r ≡ tickOf simulation) × TickAccount simulation r × TickNumber (r .number) × NeverBack simulation × (runOf 1 simulation ≡ ranOf r) × JoinsOn 1 simulation (ranOf r) ⌝ }
 {
     let a = advance::advance(simulation, 1);
     let note = a.note;
@@ -25,9 +27,9 @@ pub fn tick(simulation: Simulation) -> Ticked
     }
 }
 
-// Ticks until n are done, idle or refused.
+// Ticks until n are done, idle or refused. A run that was stopped is taken up by a run of its state.
 pub fn run(simulation: Simulation, n: u32) -> Ran
-    ensures { λ r. ⌜ (r ≡ runOf n simulation) × RunAccount simulation r × TickNumber (r .number) × NeverBack simulation ⌝ }
+    ensures { λ r. ⌜ (r ≡ runOf n simulation) × RunAccount simulation r × TickNumber (r .number) × NeverBack simulation × TickByTick n simulation r × JoinsOn n simulation r ⌝ }
 {
     let a = advance::advance(simulation, n);
     let last = a.simulation;

@@ -1,9 +1,12 @@
--- One turn of the loop is the tick, and demand 3 is given on; which numbers it gives, and that the clock can't go back, is said of the definition. Assumes nothing.
-use mathlib.Core.Path.{sym, subst}
+-- One turn of the loop is the tick, and demand 3 is given on; which numbers it gives, that the clock can't go back, and that it is a run of 1 and joins, is said of the definition.
+-- Assumes nothing.
+use mathlib.Core.Path.{sym, ap, subst, _∙_}
 use borrow.Author.Needs.{needs}
 use Rattle.remy.specs.declared.simulation.Ticked.{Ticked}
 use Rattle.remy.specs.Run.{TickNumber}
+use Rattle.remy.specs.Joins.{JoinsOn, ranOf}
 use Rattle.remy.proofs.Numbers.{tick-number}
+use Rattle.remy.proofs.Joins.{joins-on, one-run}
 use Rattle.steady.proofs.Clock.{never-back}
 use Rattle.advance.proofs.Types.{typed}
 use Rattle.simulation.proofs.Cases.{one-tick}
@@ -20,7 +23,14 @@ returns c =
     let start = c .before .before .before .before in
     let s = start .args .simulation in
     let is = one-tick s (a .result) (a .ensures) in
-    (is, tick-account s _ is, subst (λ (t : Ticked). TickNumber (t .number)) (sym is) (tick-number s), never-back s (typed s _ (start .good .0)))
+    let ran = one-run s ∙ ap ranOf (sym is) in (
+      is,
+      tick-account s _ is,
+      subst (λ (t : Ticked). TickNumber (t .number)) (sym is) (tick-number s),
+      never-back s (typed s _ (start .good .0)),
+      ran,
+      subst (JoinsOn 1 s) ran (joins-on 1 s),
+    )
 
 pub tick-spec : {M : Type 1} → statement M
 tick-spec = tie.close (tie.spec advance-requires returns)

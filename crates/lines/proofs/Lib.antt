@@ -1,0 +1,2 @@
+-- A law of the definitions.
+pub mod Joins
