@@ -9,8 +9,8 @@ use Rattle.remy.specs.Joins.{Joined, JoinsOn, TickByTick}
 use Rattle.points.specs.Unfit.{three, busy, lineWith}
 
 -- 9 bits are tallied where 8 wait
-abbrev pub unfitOne : Simulation
-unfitOne = lineWith busy three 9 2 1 1 1
+abbrev pub talliedNine : Simulation
+talliedNine = lineWith busy three 9 2 1 1 1
 
 abbrev pub joins : List (Type 0)
 joins =
@@ -21,6 +21,6 @@ joins =
     -- a caller has it after any number of ticks of any state
     ∷ ((m n : ℕ) (s : Simulation) (r : Ran) → JoinsOn n (runOf m s .simulation) r → Joined m n s r)
     -- where n is 0 the numbers differ: a run that was refused, and 0 ticks more
-    ∷ (runOf 1 unfitOne .number ≡ 9)
-    ∷ (runOf 0 (runOf 1 unfitOne .simulation) .number ≡ 0)
+    ∷ (runOf 1 talliedNine .number ≡ 9)
+    ∷ (runOf 0 (runOf 1 talliedNine .simulation) .number ≡ 0)
     ∷ []

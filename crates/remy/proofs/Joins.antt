@@ -11,7 +11,7 @@ use Rattle.remy.specs.declared.simulation.Ran.{Ran}
 use Rattle.remy.specs.Tick.{tickOf}
 use Rattle.remy.specs.Run.{oneMore, runOf}
 use Rattle.remy.specs.History.{ticks, after}
-use Rattle.remy.specs.Joins.{Joined, RunsJoin, JoinsOn, ranOf, OneTick, Ended, TickByTick}
+use Rattle.remy.specs.Joins.{Joined, RunsJoin, JoinsOn, asRun, OneTick, Ended, TickByTick}
 use Rattle.remy.proofs.Account.{unmoved-same, moved-zero}
 
 -- ---- a run by its first tick
@@ -77,7 +77,7 @@ unfolding runOf
 one-run s = by (tickOf s) (moved-zero s) (tickOf s .moved) refl
   where
     by : (t : Ticked) → (t .moved ≡ true → t .number ≡ 0) → (b : Bool) → t .moved ≡ b
-        → cond (t .moved) (record { done = 1; number = 0; simulation = t .simulation }) (record { done = 0; number = t .number; simulation = t .simulation }) ≡ ranOf t
+        → cond (t .moved) (record { done = 1; number = 0; simulation = t .simulation }) (record { done = 0; number = t .number; simulation = t .simulation }) ≡ asRun t
     by t z true e = rw (e, z e)
     by t z false e = rw e
 

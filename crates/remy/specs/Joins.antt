@@ -28,12 +28,12 @@ abbrev pub JoinsOn : ℕ → Simulation → Ran → Type 0
 JoinsOn n s r = (m : ℕ) (before : Simulation) → s ≡ runOf m before .simulation → Joined m n before r
 
 -- what a tick gave, as a run gives it
-abbrev pub ranOf : Ticked → Ran
-ranOf t = record { done = cond (t .moved) 1 0; number = t .number; simulation = t .simulation }
+abbrev pub asRun : Ticked → Ran
+asRun t = record { done = cond (t .moved) 1 0; number = t .number; simulation = t .simulation }
 
 -- A run of 1 is a tick.
 abbrev pub OneTick : Type 0
-OneTick = (s : Simulation) → runOf 1 s ≡ ranOf (tickOf s)
+OneTick = (s : Simulation) → runOf 1 s ≡ asRun (tickOf s)
 
 -- n ticks ended: all were done, and the number is 0; or the next does not move, and the number is its own.
 abbrev pub Ended : ℕ → Ran → Type 0

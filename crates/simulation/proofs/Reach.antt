@@ -8,11 +8,10 @@ use Rattle.remy.specs.declared.simulation.TickRecord.{TickRecord}
 use Rattle.remy.specs.declared.simulation.Ticked.{Ticked}
 use Rattle.remy.specs.declared.simulation.Ran.{Ran}
 use Rattle.remy.specs.Tick.{tickOf}
-use Rattle.remy.specs.Run.{runOf}
 use Rattle.remy.specs.History.{Call, tick, ticks, called, after, history, noted}
 use Rattle.remy.specs.Account.{Account}
+use Rattle.remy.specs.Joins.{TickByTick}
 use Rattle.remy.proofs.Account.{demand3}
-use Rattle.remy.proofs.Joins.{tick-by-tick}
 use Rattle.simulation.specs.Reached.{TickAccount, RunAccount}
 
 -- ---- calls and histories append
@@ -44,8 +43,7 @@ tick-account s r e n s₀ fresh cs reached =
 
 -- ---- a run
 
-pub run-account : (k : ℕ) (s : Simulation) (r : Ran) → r ≡ runOf k s → RunAccount s r
-run-account k s r e n s₀ fresh cs reached =
-    let state : after (cs ++ ticks (r .done)) s₀ ≡ r .simulation =
-    after-append cs (ticks (r .done)) s₀ ∙ ap (after (ticks (r .done))) (sym reached) ∙ ap (λ (x : Ran). after (ticks (x .done)) s) e ∙ sym (tick-by-tick k s .state) ∙ ap (λ (x : Ran). x .simulation) (sym e) in
+pub run-account : (k : ℕ) (s : Simulation) (r : Ran) → TickByTick k s r → RunAccount s r
+run-account k s r steps n s₀ fresh cs reached =
+    let state : after (cs ++ ticks (r .done)) s₀ ≡ r .simulation = after-append cs (ticks (r .done)) s₀ ∙ ap (after (ticks (r .done))) (sym reached) ∙ sym (steps .state) in
     subst (Account n (history (cs ++ ticks (r .done)) s₀)) state (demand3 n s₀ fresh (cs ++ ticks (r .done)))

@@ -5,7 +5,7 @@
 ghost use mathlib.Core.Path.{_≡_};
 ghost use Rattle.remy.specs.Tick.{tickOf};
 ghost use Rattle.remy.specs.Run.{runOf, TickNumber};
-ghost use Rattle.remy.specs.Joins.{JoinsOn, ranOf, TickByTick};
+ghost use Rattle.remy.specs.Joins.{JoinsOn, asRun, TickByTick};
 ghost use Rattle.steady.specs.Clock.{NeverBack};
 ghost use Rattle.simulation.specs.Reached.{TickAccount, RunAccount};
 use remy::Ran;
@@ -14,7 +14,7 @@ use remy::Ticked;
 
 // One tick: 9, idle, 10, or the turn of the next part. It is a run of 1.
 pub fn tick(simulation: Simulation) -> Ticked
-    ensures { λ r. ⌜ (r ≡ tickOf simulation) × TickAccount simulation r × TickNumber (r .number) × NeverBack simulation × (runOf 1 simulation ≡ ranOf r) × JoinsOn 1 simulation (ranOf r) ⌝ }
+    ensures { λ r. ⌜ (r ≡ tickOf simulation) × TickAccount simulation r × TickNumber (r .number) × NeverBack simulation × (runOf 1 simulation ≡ asRun r) × JoinsOn 1 simulation (asRun r) ⌝ }
 {
     let a = advance::advance(simulation, 1);
     let note = a.note;

@@ -23,12 +23,13 @@ returns c =
     let start = c .before .before in
     let s = start .args .simulation in
     let n = start .args .n in
-    let is = run-is n s (a .result) (a .ensures) in (
+    let is = run-is n s (a .result) (a .ensures) in
+    let steps = subst (TickByTick n s) (sym is) (tick-by-tick n s) in (
       is,
-      run-account n s _ is,
+      run-account n s _ steps,
       subst (λ (r : Ran). TickNumber (r .number)) (sym is) (run-number n s),
       never-back s (typed s _ (start .good .0)),
-      subst (TickByTick n s) (sym is) (tick-by-tick n s),
+      steps,
       subst (JoinsOn n s) (sym is) (joins-on n s),
     )
 

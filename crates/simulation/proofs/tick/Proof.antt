@@ -4,7 +4,7 @@ use mathlib.Core.Path.{sym, ap, subst, _∙_}
 use borrow.Author.Needs.{needs}
 use Rattle.remy.specs.declared.simulation.Ticked.{Ticked}
 use Rattle.remy.specs.Run.{TickNumber}
-use Rattle.remy.specs.Joins.{JoinsOn, ranOf}
+use Rattle.remy.specs.Joins.{JoinsOn, asRun}
 use Rattle.remy.proofs.Numbers.{tick-number}
 use Rattle.remy.proofs.Joins.{joins-on, one-run}
 use Rattle.steady.proofs.Clock.{never-back}
@@ -23,7 +23,7 @@ returns c =
     let start = c .before .before .before .before in
     let s = start .args .simulation in
     let is = one-tick s (a .result) (a .ensures) in
-    let ran = one-run s ∙ ap ranOf (sym is) in (
+    let ran = one-run s ∙ ap asRun (sym is) in (
       is,
       tick-account s _ is,
       subst (λ (t : Ticked). TickNumber (t .number)) (sym is) (tick-number s),
