@@ -26,7 +26,7 @@ same-run r q done number state =
     ∙ ap (λ (s : Simulation). record { done = q .done; number = q .number; simulation = s }) state
 
 module _ (n : ℕ) (s : Simulation) where
-  -- of two neither did more: the tick after the last of the one moved in the other
+  -- neither of two did more ticks than the other: else one tick moved in the other, and in this one did not
   no-more : (r q : Ran) → TickByTick n s r → TickByTick n s q → q .done ≤ r .done
   no-more r q a b = elim (le-or-lt (q .done) (r .done)) [
     | inl most ↦ most

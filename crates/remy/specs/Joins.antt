@@ -43,6 +43,6 @@ Ended n r = ((r .done ≡ n) × (r .number ≡ 0)) ⊎ ((r .done < n) × (tickOf
 pub record TickByTick (n : ℕ) (s : Simulation) (r : Ran) : Type 0 where
   -- those done moved, each given the state that the one before it returned
   pub moved : (k : ℕ) → k < r .done → tickOf (after (ticks k) s) .moved ≡ true
-  -- the last of them returned r's state
+  -- r's state is the one after them
   pub state : r .simulation ≡ after (ticks (r .done)) s
   pub ended : Ended n r

@@ -1,7 +1,7 @@
 // The simulation in code: tick and run, equal to their definitions in remy. Both also say demand 3, the
 // account of packets, for every state that calls reach from a build; which numbers they can give;
 // that the clock cannot go back, in any state that calls reach from the one given; and that runs join:
-// wherever the state given is what m ticks of another gave, n ticks of it are the last n of m + n.
+// wherever the state given is what m ticks of another gave, n ticks of it end as m + n of the other do.
 ghost use mathlib.Core.Path.{_≡_};
 ghost use Rattle.remy.specs.Tick.{tickOf};
 ghost use Rattle.remy.specs.Run.{runOf, TickNumber};
@@ -27,7 +27,7 @@ pub fn tick(simulation: Simulation) -> Ticked
     }
 }
 
-// Ticks until n are done, idle or refused. A run that was stopped is taken up by a run of its state.
+// Ticks until n are done, idle or refused. A run goes on with a run of the state that it returned.
 pub fn run(simulation: Simulation, n: u32) -> Ran
     ensures { λ r. ⌜ (r ≡ runOf n simulation) × RunAccount simulation r × TickNumber (r .number) × NeverBack simulation × TickByTick n simulation r × JoinsOn n simulation r ⌝ }
 {
