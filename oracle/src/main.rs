@@ -1,5 +1,7 @@
 //! The oracle: what FlowForge's published code answers, in document 01's text (README.md, FORM.md).
 
+mod loads;
+
 use std::io::{self, Read, Write};
 use std::process::ExitCode;
 
@@ -29,6 +31,7 @@ fn main() -> ExitCode {
         "run" => describe(States::None, always_patched),
         "held" => describe(States::Lines, always_patched),
         "digest" => describe(States::Digests, always_patched),
+        "loads" => loads(),
         "meters" => meters(),
         _ => return usage(),
     })
@@ -47,6 +50,7 @@ fn ended(done: io::Result<()>) -> ExitCode {
 fn usage() -> ExitCode {
     eprintln!("usage: oracle run|held|digest [--patched] < description");
     eprintln!("       oracle ticks COUNT < description");
+    eprintln!("       oracle loads < list");
     eprintln!("       oracle meters < script");
     ExitCode::from(2)
 }
@@ -137,6 +141,16 @@ fn ticks(count: &str) -> io::Result<()> {
         }
         Err(number) => println!("stop={number}"),
     }
+    Ok(())
+}
+
+/// The oracle's own reader of descriptions: nothing is built or run.
+fn loads() -> io::Result<()> {
+    let mut list = Vec::new();
+    io::stdin().take(loads::LIST).read_to_end(&mut list)?;
+    let tally = loads::rounds(&list);
+    let (given, malformed, sum) = (tally.given, tally.malformed, tally.sum);
+    println!("given={given} malformed={malformed} sum={sum:016x}");
     Ok(())
 }
 

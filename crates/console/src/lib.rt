@@ -6,6 +6,7 @@ ghost use lib.ListN.{length};
 ghost use Rattle.report.specs.Report.{leftOf, reportOf, ForText};
 ghost use Rattle.console.specs.Turns.{TurnIs, HandedIs};
 
+mod input;
 mod output;
 
 use crate::output::Handed;
@@ -23,8 +24,8 @@ struct Turn {
 // Reads a text from standard input and prints its report. No description has as many bytes as the
 // buffer, so what is read of a longer input is none.
 pub fn run() {
-    let mut text = io::buffer();
-    let got = io::read_full(0, &mut text);
+    let mut text = [0u8; 4096];
+    let got = input::fill(&mut text);
     print_text(&text[..got]);
 }
 

@@ -1,6 +1,6 @@
 -- A form after a key, two forms one after the other, and one or the other: what their readers answer. Assumes nothing.
 use Prim.Native.Nat.{ℕ}
-use mathlib.Core.List.{List, _++_, append-assoc, append-cancel-left}
+use mathlib.Core.List.{List, _++_, append-assoc}
 use mathlib.Core.Logic.{_⊎_, inl, inr}
 use mathlib.Core.Path.{_≡_, sym, ap, _∙_}
 use lib.ListN.{drop}
@@ -48,31 +48,25 @@ module _ {A : Type 0} {key : List ℕ} {text : List ℕ} {at : ℕ} where
   key-then F f (found v last) g = key-found f g
   key-then F f refused g = key-open f g
 
--- a key, then a value of the first form or of the second, where no text begins with a value of each
-abbrev pub Apart : {A B : Type 0} → Form A → Form B → Type 0
-Apart {A} {B} F G = (a : A) (b : B) (s t : List ℕ) → F .text a ++ s ≡ G .text b ++ t → ⊥
-
-module _ (key : List ℕ) {A B : Type 0} (F : Form A) (G : Form B) {text : List ℕ} {at : ℕ} where
-  pub either-none : Absent (keyed key F) text at → Absent (keyed key G) text at → Absent (keyed key (either F G)) text at
+-- a value of the first form or of the second
+module _ {A B : Type 0} (F : Form A) (G : Form B) {text : List ℕ} {at : ℕ} where
+  pub either-none : Absent F text at → Absent G text at → Absent (either F G) text at
   either-none f g = record { none = no }
     where
-      no : (w : A ⊎ B) (rest : List ℕ) → drop at text ≡ (key ++ either F G .text w) ++ rest → either F G .fits w → ⊥
+      no : (w : A ⊎ B) (rest : List ℕ) → drop at text ≡ either F G .text w ++ rest → either F G .fits w → ⊥
       no (inl a) rest e h = f .none a rest e h
       no (inr b) rest e h = g .none b rest e h
 
-  pub either-first : Apart F G → {a : A} {next : ℕ} → Found (keyed key F) text at a next → Found (keyed key (either F G)) text at (inl a) next
-  either-first apart {a} {next} f = record { fits = f .fits; here = f .here; only = one }
+  pub either-first : {a : A} {next : ℕ} → Found F text at a next → Absent G text at → Found (either F G) text at (inl a) next
+  either-first {a} {next} f g = record { fits = f .fits; here = f .here; only = one }
     where
-      one : (w : A ⊎ B) (rest : List ℕ) → drop at text ≡ (key ++ either F G .text w) ++ rest → either F G .fits w → (w ≡ inl a) × (rest ≡ drop next text)
+      one : (w : A ⊎ B) (rest : List ℕ) → drop at text ≡ either F G .text w ++ rest → either F G .fits w → (w ≡ inl a) × (rest ≡ drop next text)
       one (inl x) rest e h = let u = f .only x rest e h in (ap inl (u .0), u .1)
-      one (inr y) rest e h =
-          absurd
-          (apart a y _ rest
-          (append-cancel-left key _ _ (sym (append-assoc key (F .text a) (drop next text)) ∙ sym (f .here) ∙ e ∙ append-assoc key (G .text y) rest)))
+      one (inr y) rest e h = absurd (g .none y rest e h)
 
-  pub either-second : {b : B} {next : ℕ} → Absent (keyed key F) text at → Found (keyed key G) text at b next → Found (keyed key (either F G)) text at (inr b) next
+  pub either-second : {b : B} {next : ℕ} → Absent F text at → Found G text at b next → Found (either F G) text at (inr b) next
   either-second {b} {next} f g = record { fits = g .fits; here = g .here; only = one }
     where
-      one : (w : A ⊎ B) (rest : List ℕ) → drop at text ≡ (key ++ either F G .text w) ++ rest → either F G .fits w → (w ≡ inr b) × (rest ≡ drop next text)
+      one : (w : A ⊎ B) (rest : List ℕ) → drop at text ≡ either F G .text w ++ rest → either F G .fits w → (w ≡ inr b) × (rest ≡ drop next text)
       one (inl x) rest e h = absurd (f .none x rest e h)
       one (inr y) rest e h = let u = g .only y rest e h in (ap inr (u .0), u .1)

@@ -39,13 +39,13 @@ most64 = 2 ^ 64 - 1
 abbrev pub most32 : ℕ
 most32 = 2 ^ 32 - 1
 
--- a number of a kind and what ends it; a key and two numbers
+-- a number of a kind and what ends it; two numbers
 abbrev pub kindForm : Kind → ℕ → Form ℕ
 kindForm E.Double end = hexForm end
 kindForm (E.Whole most) end = decimalForm most end
 
-abbrev pub twoForm : List ℕ → Kind → Kind → Form (ℕ × ℕ)
-twoForm key first second = pair (keyed key (kindForm first colon)) (kindForm second lf)
+abbrev pub twoForm : Kind → Kind → Form (ℕ × ℕ)
+twoForm first second = pair (kindForm first colon) (kindForm second lf)
 
 -- limit
 abbrev pub limitForm : Form (Unit {0} ⊎ ℕ)
@@ -60,10 +60,13 @@ abbrev pub alwaysForm : Form ℕ
 alwaysForm = keyed alwaysKey (hexForm lf)
 
 abbrev pub uniformForm : Form (ℕ × ℕ)
-uniformForm = twoForm uniformKey E.Double E.Double
+uniformForm = keyed uniformKey (twoForm E.Double E.Double)
+
+abbrev pub distributionValue : Form (ℕ ⊎ (ℕ × ℕ))
+distributionValue = either alwaysForm uniformForm
 
 abbrev pub distributionForm : List ℕ → Form (ℕ ⊎ (ℕ × ℕ))
-distributionForm key = keyed key (either alwaysForm uniformForm)
+distributionForm key = keyed key distributionValue
 
 abbrev pub distributionCase : Distribution → ℕ ⊎ (ℕ × ℕ)
 distributionCase (Always v) = inl v
@@ -74,10 +77,10 @@ abbrev pub heldForm : Form ℕ
 heldForm = keyed heldKey (decimalForm most32 lf)
 
 abbrev pub grownForm : Form (ℕ × ℕ)
-grownForm = twoForm grownKey (E.Whole most32) (E.Whole most32)
+grownForm = keyed grownKey (twoForm (E.Whole most32) (E.Whole most32))
 
 abbrev pub timedForm : Form (ℕ × ℕ)
-timedForm = twoForm timedKey (E.Whole most32) E.Double
+timedForm = keyed timedKey (twoForm (E.Whole most32) E.Double)
 
 abbrev pub policyForm : Form (ℕ ⊎ ((ℕ × ℕ) ⊎ (ℕ × ℕ)))
 policyForm = keyed policyKey (either heldForm (either grownForm timedForm))

@@ -1,7 +1,7 @@
 // The lines of a description.
 ghost use mathlib.Core.List.{[], _∷_};
-ghost use Rattle.notation.specs.Reading.{Reads, NoDigit, numbered, keyed};
-ghost use Rattle.description.specs.Lines.{twofold, limited, distributed, governed, linked, loaded, coursed, kindForm, twoForm, limitForm, distributionForm, policyForm, linkForm, loadForm, courseForm};
+ghost use Rattle.notation.specs.Reading.{Reads, NoDigit, ForWord, numbered, keyed};
+ghost use Rattle.description.specs.Lines.{twofold, limited, distributed, governed, linked, loaded, coursed, kindForm, twoForm, limitForm, distributionValue, distributionForm, policyForm, linkForm, loadForm, courseForm};
 use crate::Distribution;
 use crate::Limit;
 use crate::Policy;
@@ -9,6 +9,7 @@ use notation::scan::Number;
 use notation::scan::Place;
 use notation::scan::decimal;
 use notation::scan::hex16;
+use notation::scan::key;
 use notation::scan::word;
 
 // The greatest numbers of 64 and of 32 bits.
@@ -18,6 +19,41 @@ pub const MOST32: u64 = 0xffff_ffff;
 
 // Ticks are at most this.
 pub const MOST_TICKS: u64 = 65536;
+
+// The words of a description, each as the number that has its bytes for its digits to the base 256.
+pub const DELAY: u64 = 0x64_65_6c_61_79_3d; // delay=
+
+pub const RATE: u64 = 0x72_61_74_65_3d; // rate=
+
+pub const LOSS: u64 = 0x6c_6f_73_73_3d; // loss=
+
+pub const LIMIT: u64 = 0x6c_69_6d_69_74_3d; // limit=
+
+pub const NONE: u64 = 0x6e_6f_6e_65_0a; // none LF
+
+pub const BITS: u64 = 0x62_69_74_73_3d; // bits=
+
+pub const SENDERS: u64 = 0x73_65_6e_64_65_72_73_3d; // senders=
+
+pub const ON: u64 = 0x6f_6e_3d; // on=
+
+pub const OFF: u64 = 0x6f_66_66_3d; // off=
+
+pub const ALWAYS: u64 = 0x61_6c_77_61_79_73_3a; // always:
+
+pub const UNIFORM: u64 = 0x75_6e_69_66_6f_72_6d_3a; // uniform:
+
+pub const POLICY: u64 = 0x70_6f_6c_69_63_79_3d; // policy=
+
+pub const HELD: u64 = 0x68_65_6c_64_3a; // held:
+
+pub const GROWN: u64 = 0x67_72_6f_77_6e_3a; // grown:
+
+pub const TIMED: u64 = 0x74_69_6d_65_64_3a; // timed:
+
+pub const SEED: u64 = 0x73_65_65_64_3d; // seed=
+
+pub const TICKS: u64 = 0x74_69_63_6b_73_3d; // ticks=
 
 // Two numbers, and the position after them.
 pub enum Two {
@@ -59,24 +95,24 @@ pub(crate) fn ended(text: &[u8], at: usize, kind: Kind, end: u8) -> Number
     }
 }
 
-// A key, a number, and the byte that ends it.
+// A word, a number, and the byte that ends it.
 //
 // A helper within this crate: the caller gives an end that is no digit.
-pub(crate) fn value(text: &[u8], at: usize, key: &[u8], kind: Kind, end: u8) -> Number
+pub(crate) fn value(text: &[u8], at: usize, word: u64, kind: Kind, end: u8) -> Number
     requires { ⌜ NoDigit 16 (end ∷ []) ⌝ }
-    ensures { λ r. ⌜ Reads (keyed (now (key .entry)) (kindForm kind end)) (now (text .entry)) at (numbered r) ⌝ }
+    ensures { λ r. ⌜ ForWord word (λ w. Reads (keyed w (kindForm kind end)) (now (text .entry)) at (numbered r)) ⌝ }
 {
-    match word(text, at, key) {
+    match key(text, at, word) {
         Place::At(next) => ended(text, next, kind, end),
         Place::Refused => Number::Refused,
     }
 }
 
-// A key and two numbers: `key:n:n`.
-pub(crate) fn both(text: &[u8], at: usize, key: &[u8], first: Kind, second: Kind) -> Two
-    ensures { λ r. ⌜ Reads (twoForm (now (key .entry)) first second) (now (text .entry)) at (twofold r) ⌝ }
+// Two numbers: `n:n`.
+pub(crate) fn both(text: &[u8], at: usize, first: Kind, second: Kind) -> Two
+    ensures { λ r. ⌜ Reads (twoForm first second) (now (text .entry)) at (twofold r) ⌝ }
 {
-    match value(text, at, key, first, b':') {
+    match ended(text, at, first, b':') {
         Number::At(a, next) => match ended(text, next, second, b'\n') {
             Number::At(b, last) => Two::At(a, b, last),
             Number::Refused => Two::Refused,
@@ -89,62 +125,87 @@ pub(crate) fn both(text: &[u8], at: usize, key: &[u8], first: Kind, second: Kind
 pub(crate) fn limit_line(text: &[u8], at: usize) -> LimitAt
     ensures { λ r. ⌜ Reads limitForm (now (text .entry)) at (limited r) ⌝ }
 {
-    match word(text, at, b"limit=none\n") {
-        Place::At(next) => LimitAt::At(Limit::None, next),
-        Place::Refused => match value(text, at, b"limit=", Kind::Whole(MOST64), b'\n') {
-            Number::At(bits, next) => LimitAt::At(Limit::Bits(bits), next),
-            Number::Refused => LimitAt::Refused,
+    match key(text, at, LIMIT) {
+        Place::At(from) => match key(text, from, NONE) {
+            Place::At(next) => LimitAt::At(Limit::None, next),
+            Place::Refused => match ended(text, from, Kind::Whole(MOST64), b'\n') {
+                Number::At(bits, next) => LimitAt::At(Limit::Bits(bits), next),
+                Number::Refused => LimitAt::Refused,
+            },
         },
+        Place::Refused => LimitAt::Refused,
     }
 }
 
-// on and off: `always:h` or `uniform:h:h`.
-pub(crate) fn distribution_line(text: &[u8], at: usize, key: &[u8]) -> DistributionAt
-    ensures { λ r. ⌜ Reads (distributionForm (now (key .entry))) (now (text .entry)) at (distributed r) ⌝ }
+// on and off: `always:h` or `uniform:h:h`. The first word tells which.
+pub(crate) fn distribution_value(text: &[u8], at: usize) -> DistributionAt
+    ensures { λ r. ⌜ Reads distributionValue (now (text .entry)) at (distributed r) ⌝ }
 {
-    match word(text, at, key) {
-        Place::At(next) => match value(text, next, b"always:", Kind::Double, b'\n') {
-            Number::At(v, last) => DistributionAt::At(Distribution::Always(v), last),
-            Number::Refused => match both(text, next, b"uniform:", Kind::Double, Kind::Double) {
-                Two::At(min, max, last) => DistributionAt::At(
-                    Distribution::Uniform(min, max),
-                    last,
-                ),
-                Two::Refused => DistributionAt::Refused,
-            },
-        },
+    match word(text, at) {
+        Number::At(first, next) => {
+            if first == ALWAYS {
+                return match ended(text, next, Kind::Double, b'\n') {
+                    Number::At(v, last) => DistributionAt::At(Distribution::Always(v), last),
+                    Number::Refused => DistributionAt::Refused,
+                };
+            }
+            if first == UNIFORM {
+                return match both(text, next, Kind::Double, Kind::Double) {
+                    Two::At(min, max, last) => DistributionAt::At(
+                        Distribution::Uniform(min, max),
+                        last,
+                    ),
+                    Two::Refused => DistributionAt::Refused,
+                };
+            }
+            DistributionAt::Refused
+        }
+        Number::Refused => DistributionAt::Refused,
+    }
+}
+
+pub(crate) fn distribution_line(text: &[u8], at: usize, word: u64) -> DistributionAt
+    ensures { λ r. ⌜ ForWord word (λ w. Reads (distributionForm w) (now (text .entry)) at (distributed r)) ⌝ }
+{
+    match key(text, at, word) {
+        Place::At(next) => distribution_value(text, next),
         Place::Refused => DistributionAt::Refused,
     }
 }
 
-// policy: `held:w`, `grown:f:m` or `timed:m:h`.
+// policy: `held:w`, `grown:f:m` or `timed:m:h`. The first word tells which.
 pub(crate) fn policy_line(text: &[u8], at: usize) -> PolicyAt
     ensures { λ r. ⌜ Reads policyForm (now (text .entry)) at (governed r) ⌝ }
 {
-    match value(text, at, b"policy=held:", Kind::Whole(MOST32), b'\n') {
-        Number::At(w, next) => PolicyAt::At(Policy::Held(w as u32), next),
-        Number::Refused => match both(
-            text,
-            at,
-            b"policy=grown:",
-            Kind::Whole(MOST32),
-            Kind::Whole(MOST32),
-        ) {
-            Two::At(first, most, next) => PolicyAt::At(
-                Policy::Grown(first as u32, most as u32),
-                next,
-            ),
-            Two::Refused => match both(
-                text,
-                at,
-                b"policy=timed:",
-                Kind::Whole(MOST32),
-                Kind::Double,
-            ) {
-                Two::At(most, gap, next) => PolicyAt::At(Policy::Timed(most as u32, gap), next),
-                Two::Refused => PolicyAt::Refused,
-            },
+    match key(text, at, POLICY) {
+        Place::At(from) => match word(text, from) {
+            Number::At(first, next) => {
+                if first == HELD {
+                    return match ended(text, next, Kind::Whole(MOST32), b'\n') {
+                        Number::At(w, last) => PolicyAt::At(Policy::Held(w as u32), last),
+                        Number::Refused => PolicyAt::Refused,
+                    };
+                }
+                if first == GROWN {
+                    return match both(text, next, Kind::Whole(MOST32), Kind::Whole(MOST32)) {
+                        Two::At(f, m, last) => PolicyAt::At(
+                            Policy::Grown(f as u32, m as u32),
+                            last,
+                        ),
+                        Two::Refused => PolicyAt::Refused,
+                    };
+                }
+                if first == TIMED {
+                    return match both(text, next, Kind::Whole(MOST32), Kind::Double) {
+                        Two::At(m, h, last) => PolicyAt::At(Policy::Timed(m as u32, h), last),
+                        Two::Refused => PolicyAt::Refused,
+                    };
+                }
+                PolicyAt::Refused
+            }
+            Number::Refused => PolicyAt::Refused,
         },
+        Place::Refused => PolicyAt::Refused,
     }
 }
 
@@ -164,9 +225,9 @@ pub enum LinkAt {
 pub(crate) fn link_lines(text: &[u8], at: usize) -> LinkAt
     ensures { λ r. ⌜ Reads linkForm (now (text .entry)) at (linked r) ⌝ }
 {
-    match value(text, at, b"delay=", Kind::Double, b'\n') {
-        Number::At(delay, a) => match value(text, a, b"rate=", Kind::Double, b'\n') {
-            Number::At(rate, b) => match value(text, b, b"loss=", Kind::Double, b'\n') {
+    match value(text, at, DELAY, Kind::Double, b'\n') {
+        Number::At(delay, a) => match value(text, a, RATE, Kind::Double, b'\n') {
+            Number::At(rate, b) => match value(text, b, LOSS, Kind::Double, b'\n') {
                 Number::At(loss, c) => match limit_line(text, c) {
                     LimitAt::At(limit, next) => LinkAt::At(
                         Link {
@@ -203,10 +264,10 @@ pub enum LoadAt {
 pub(crate) fn load_lines(text: &[u8], at: usize) -> LoadAt
     ensures { λ r. ⌜ Reads loadForm (now (text .entry)) at (loaded r) ⌝ }
 {
-    match value(text, at, b"bits=", Kind::Whole(MOST64), b'\n') {
-        Number::At(bits, a) => match value(text, a, b"senders=", Kind::Whole(MOST32), b'\n') {
-            Number::At(n, b) => match distribution_line(text, b, b"on=") {
-                DistributionAt::At(on, c) => match distribution_line(text, c, b"off=") {
+    match value(text, at, BITS, Kind::Whole(MOST64), b'\n') {
+        Number::At(bits, a) => match value(text, a, SENDERS, Kind::Whole(MOST32), b'\n') {
+            Number::At(n, b) => match distribution_line(text, b, ON) {
+                DistributionAt::At(on, c) => match distribution_line(text, c, OFF) {
                     DistributionAt::At(off, next) => LoadAt::At(
                         Load {
                             bits,
@@ -242,8 +303,8 @@ pub(crate) fn course_lines(text: &[u8], at: usize) -> CourseAt
     ensures { λ r. ⌜ Reads courseForm (now (text .entry)) at (coursed r) ⌝ }
 {
     match policy_line(text, at) {
-        PolicyAt::At(policy, a) => match value(text, a, b"seed=", Kind::Whole(MOST64), b'\n') {
-            Number::At(seed, b) => match value(text, b, b"ticks=", Kind::Whole(MOST_TICKS), b'\n') {
+        PolicyAt::At(policy, a) => match value(text, a, SEED, Kind::Whole(MOST64), b'\n') {
+            Number::At(seed, b) => match value(text, b, TICKS, Kind::Whole(MOST_TICKS), b'\n') {
                 Number::At(n, next) => CourseAt::At(
                     Course {
                         policy,

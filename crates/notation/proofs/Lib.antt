@@ -1,4 +1,4 @@
 pub mod Digits
-mod Words
+pub mod Words
 pub mod Written
 mod Numbers

@@ -1,2 +1,3 @@
 pub mod Notation
 pub mod Reading
+pub mod InPlace

@@ -1,10 +1,10 @@
 -- What the functions that read a part of a text answer. Definitions only.
 use Prim.Native.Nat.{ℕ, _+_, _*_, _^_, _≤_, _<_}
 use mathlib.Core.List.{List, [], _∷_, _++_}
-use mathlib.Core.Bool.{Bool, false, cond}
+use mathlib.Core.Bool.{Bool, true, false, cond}
 use mathlib.Core.Logic.{_⊎_, ⊎-elim}
 use mathlib.Core.Path.{_≡_}
-use lib.Dec.{eqb}
+use lib.Dec.{eqb, ltb}
 use lib.ListN.{drop, length}
 use Rattle.notation.specs.Notation.{digitByte, hexOf, decimalOf}
 use Rattle.notation.specs.declared.scan.Place.{Place}
@@ -100,3 +100,31 @@ pub record NoDigits (b most : ℕ) (text : List ℕ) (at : ℕ) : Type 0 where
 abbrev pub ReadsDigits : ℕ → ℕ → List ℕ → ℕ → ReadResult ℕ → Type 0
 ReadsDigits b most text at (found v next) = SomeDigits b most text at v next × NoDigit b (drop next text)
 ReadsDigits b most text at refused = NoDigits b most text at
+
+-- a lower-case letter
+abbrev pub isLetter : ℕ → Bool
+isLetter b = cond (ltb b 97) false (ltb b 123)
+
+-- the word s, read after letters of the value n, has the value v: its bytes are digits to the base 256, the last is no letter, and the others are letters
+pub data Spells : ℕ → List ℕ → ℕ → Type 0 where
+  last : {n : ℕ} (b : ℕ) → b < 256 → isLetter b ≡ false → Spells n (b ∷ []) (n * 256 + b)
+  more : {n v : ℕ} {s : List ℕ} (b : ℕ) → isLetter b ≡ true → Spells (n * 256 + b) s v → Spells n (b ∷ s) v
+
+-- a word from a position up to the position next
+pub record SomeWord (text : List ℕ) (at v next : ℕ) : Type 0 where
+  pub word : List ℕ
+  pub spells : Spells 0 word v
+  pub here : drop at text ≡ word ++ drop next text
+
+-- no word with a value of 64 bits stands there
+pub record NoWord (text : List ℕ) (at : ℕ) : Type 0 where
+  pub none : (s rest : List ℕ) (v : ℕ) → drop at text ≡ s ++ rest → Spells 0 s v → v < 2 ^ 64 → ⊥
+
+-- the word at a position is read, or there is none
+abbrev pub ReadsWord : List ℕ → ℕ → ReadResult ℕ → Type 0
+ReadsWord text at (found v next) = SomeWord text at v next
+ReadsWord text at refused = NoWord text at
+
+-- what is said of each word that a number is the value of
+abbrev pub ForWord : ℕ → (List ℕ → Type 0) → Type 0
+ForWord key P = (w : List ℕ) → Spells 0 w key → P w

@@ -1,6 +1,7 @@
-// The parts that every line of a description is made of, read: a fixed word, a double, a whole number.
+// The parts that every line of a description is made of, read where they lie: a word, a double, a whole
+// number.
 ghost use Prim.Native.Nat.{_≤_, _<_};
-ghost use Rattle.notation.specs.Reading.{Reads, ReadsDigits, DigitIs, NoDigit, placed, numbered, ledByZero, wordForm, hexForm, decimalForm};
+ghost use Rattle.notation.specs.Reading.{Reads, ReadsDigits, ReadsWord, DigitIs, NoDigit, ForWord, placed, numbered, ledByZero, isLetter, wordForm, hexForm, decimalForm};
 ghost use mathlib.Core.Path.{_≡_};
 ghost use mathlib.Core.List.{[], _∷_};
 
@@ -62,23 +63,50 @@ fn digits(text: &[u8], at: usize, base: u64, most: u64) -> Number
     Number::At(value, next)
 }
 
-// A fixed word.
-pub fn word(text: &[u8], at: usize, w: &[u8]) -> Place
-    ensures { λ r. ⌜ Reads (wordForm (now (w .entry))) (now (text .entry)) at (placed r) ⌝ }
+// Whether a byte is a lower-case letter.
+fn letter(b: u8) -> bool
+    ensures { λ r. ⌜ r ≡ isLetter b ⌝ }
 {
-    let mut next = at;
-    let mut i = 0;
-    while i < w.len() {
-        if text.len() <= next {
-            return Place::Refused;
-        }
-        if text[next] != w[i] {
-            return Place::Refused;
-        }
-        next += 1;
-        i += 1;
+    if b < 97 {
+        return false;
     }
-    Place::At(next)
+    b < 123
+}
+
+// The word at a position: letters and the byte that ends them, as the number that has the bytes for its
+// digits to the base 256. A word has at most eight bytes.
+pub fn word(text: &[u8], at: usize) -> Number
+    ensures { λ r. ⌜ ReadsWord (now (text .entry)) at (numbered r) ⌝ }
+{
+    let mut value: u64 = 0;
+    let mut next = at;
+    while next < text.len() {
+        if 0x00ff_ffff_ffff_ffff < value {
+            return Number::Refused;
+        }
+        let b = text[next];
+        value = value * 256 + b as u64;
+        next += 1;
+        if !letter(b) {
+            return Number::At(value, next);
+        }
+    }
+    Number::Refused
+}
+
+// A given word.
+pub fn key(text: &[u8], at: usize, key: u64) -> Place
+    ensures { λ r. ⌜ ForWord key (λ w. Reads (wordForm w) (now (text .entry)) at (placed r)) ⌝ }
+{
+    match word(text, at) {
+        Number::At(value, next) => {
+            if value == key {
+                return Place::At(next);
+            }
+            Place::Refused
+        }
+        Number::Refused => Place::Refused,
+    }
 }
 
 // One byte.

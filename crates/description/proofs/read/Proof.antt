@@ -1,11 +1,14 @@
 -- `description::read` meets its contract: three groups of lines, one after the other, and nothing after them.
 -- Assumes nothing.
+use mathlib.Core.Path.{refl}
 use denote.Ref.{now}
 use borrow.Author.Needs.{needs}
 use Rattle.notation.specs.Reading.{pair}
 use Rattle.description.specs.Lines.{loadForm, courseForm, gatheredOf}
 use Rattle.description.proofs.Forms.{pair-first, pair-second, pair-found}
 use Rattle.description.proofs.Whole.{read-absent, read-long, read-given}
+use Rattle.notation.specs.InPlace.{InPlace}
+use Rattle.description.proofs.read.Code as code
 use Rattle.description.proofs.read.Statement.{statement}
 use Rattle.description.proofs.read.Tie as tie
 
@@ -66,6 +69,9 @@ returns-4 c =
 
 returns-5 : tie.Need-returns-5
 returns-5 c = read-absent (now (c .before .before .before .before .args .text)) (pair-first (pair loadForm courseForm) (rw (c .enum-told3 .given .1) at (c .before .before .link-lines .ensures)))
+
+in-place : InPlace code.function
+in-place = refl
 
 pub read-spec : {M : Type 1} → statement M
 read-spec =

@@ -1,22 +1,28 @@
--- `description::lines::limit_line` meets its contract: after the key the word or the number, which begin with different bytes.
+-- `description::lines::limit_line` meets its contract: a key, then `none` or a number, and no text that begins with `none` begins with a number.
 -- Assumes nothing.
-use Prim.Native.Nat.{ℕ}
-use borrow.Author.Needs.{needs}
+use mathlib.Core.Path.{refl}
 use denote.Ref.{now}
-use Rattle.notation.specs.Reading.{Form, Absent, wordForm, decimalForm, keyed}
-use Rattle.description.specs.Lines.{most64}
+use borrow.Author.Needs.{needs}
 use Rattle.notation.specs.Notation.{lf}
+use Rattle.notation.specs.Reading.{Found, wordForm, decimalForm, either}
 use Rattle.description.specs.Words.{limitKey, noneLine}
-use Rattle.description.proofs.Forms.{either-none, either-first, either-second}
-use Rattle.description.proofs.Cases.{lf-ends, limit-apart}
+use Rattle.description.specs.Lines.{most64}
+use Rattle.notation.proofs.Words.{spelt}
+use Rattle.description.proofs.Forms.{key-absent, key-open, key-found, either-none, either-first, either-second}
+use Rattle.description.proofs.Cases.{lf-ends, no-bits}
+use Rattle.notation.specs.InPlace.{InPlace}
+use Rattle.description.proofs.lines.limit_line.Code as code
 use Rattle.description.proofs.lines.limit_line.Statement.{statement}
 use Rattle.description.proofs.lines.limit_line.Tie as tie
 
-slice-aggregate-word : tie.Need-slice-aggregate-word
-slice-aggregate-word c = search needs
+key-requires : tie.Need-key-requires
+key-requires c κs = search needs
 
-word-requires : tie.Need-word-requires
-word-requires c κs = search needs
+enum-known-from : tie.Need-enum-known-from
+enum-known-from c = search needs
+
+key-requires-2 : tie.Need-key-requires-2
+key-requires-2 c κs = search needs
 
 enum-known-next : tie.Need-enum-known-next
 enum-known-next c = search needs
@@ -24,11 +30,8 @@ enum-known-next c = search needs
 enum-told : tie.Need-enum-told
 enum-told c = search needs
 
-slice-aggregate-value : tie.Need-slice-aggregate-value
-slice-aggregate-value c = search needs
-
-value-requires : tie.Need-value-requires
-value-requires c κs = lf-ends
+ended-requires : tie.Need-ended-requires
+ended-requires c κs = lf-ends
 
 enum-known-bits : tie.Need-enum-known-bits
 enum-known-bits c = search needs
@@ -36,36 +39,51 @@ enum-known-bits c = search needs
 enum-told-2 : tie.Need-enum-told-2
 enum-told-2 c = search needs
 
-abbrev none : Form (Unit {0})
-none = wordForm noneLine
+enum-told-3 : tie.Need-enum-told-3
+enum-told-3 c = search needs
 
-abbrev bits : Form ℕ
-bits = decimalForm most64 lf
-
-no-none : (p : tie.After-enum-told) → let a = p .before .before .before .before .before .args in Absent (keyed limitKey none) (now (a .text)) (a .at)
-no-none p = rw (p .enum-told .given .1) at (p .before .before .word .ensures)
+-- the key was read
+keyed-at : (p : tie.After-from) → let a = p .before .before .before .before .args in
+    Found (wordForm limitKey) (now (a .text)) (a .at) tt (p .from .given .0 .0)
+keyed-at p = rw (p .from .given .1) at (p .before .before .key .ensures limitKey (spelt 0 limitKey refl))
 
 returns : tie.Need-returns
-returns c = either-first limitKey none bits limit-apart (rw (c .before .next .given .1) at (c .before .before .before .word .ensures))
+returns c =
+    let none = rw (c .before .next .given .1) at (c .before .before .before .key2 .ensures noneLine (spelt 0 noneLine refl)) in
+    key-found (keyed-at (c .before .before .before .before .before)) (either-first (wordForm noneLine) (decimalForm most64 lf) none (no-bits none))
 
 returns-2 : tie.Need-returns-2
-returns-2 c = either-second limitKey none bits (no-none (c .before .before .before .before .before)) (rw (c .before .bits .given .1) at (c .before .before .before .value .ensures))
+returns-2 c =
+    key-found (keyed-at (c .before .before .before .before .before .before .before .before))
+    (either-second (wordForm noneLine) (decimalForm most64 lf) (rw (c .before .before .before .before .enum-told .given .1) at (c .before .before .before .before .before .before .key2 .ensures noneLine (spelt 0 noneLine refl)))
+    (rw (c .before .bits .given .1) at (c .before .before .before .ended .ensures)))
 
 returns-3 : tie.Need-returns-3
-returns-3 c = either-none limitKey none bits (no-none (c .before .before .before .before)) (rw (c .enum-told2 .given .1) at (c .before .before .value .ensures))
+returns-3 c =
+    key-open (keyed-at (c .before .before .before .before .before .before .before))
+    (either-none (wordForm noneLine) (decimalForm most64 lf) (rw (c .before .before .before .enum-told .given .1) at (c .before .before .before .before .before .key2 .ensures noneLine (spelt 0 noneLine refl)))
+    (rw (c .enum-told2 .given .1) at (c .before .before .ended .ensures)))
+
+returns-4 : tie.Need-returns-4
+returns-4 c = key-absent (either (wordForm noneLine) (decimalForm most64 lf)) (rw (c .enum-told3 .given .1) at (c .before .before .key .ensures limitKey (spelt 0 limitKey refl)))
+
+in-place : InPlace code.function
+in-place = refl
 
 pub limit-line-spec : {M : Type 1} → statement M
 limit-line-spec =
     tie.close
     (tie.spec
-    slice-aggregate-word
-    word-requires
+    key-requires
+    enum-known-from
+    key-requires-2
     enum-known-next
     enum-told
-    slice-aggregate-value
-    value-requires
+    ended-requires
     enum-known-bits
     enum-told-2
+    enum-told-3
     returns
     returns-2
-    returns-3)
+    returns-3
+    returns-4)

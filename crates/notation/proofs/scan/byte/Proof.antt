@@ -7,6 +7,8 @@ use denote.Ref.{now}
 use borrow.Author.Needs.{needs}
 use Rattle.notation.proofs.Digits.{at-end, at-other, at-byte}
 use Rattle.notation.proofs.Words.{word-absent, word-found}
+use Rattle.notation.specs.InPlace.{InPlace}
+use Rattle.notation.proofs.scan.byte.Code as code
 use Rattle.notation.proofs.scan.byte.Statement.{statement}
 use Rattle.notation.proofs.scan.byte.Tie as tie
 
@@ -30,6 +32,9 @@ returns-3 : tie.Need-returns-3
 returns-3 c =
     let a = c .before .before .before .args in
     word-found (now (a .text)) (a .b ∷ []) _ _ (rw (c .if2 .left) at (at-byte (now (a .text)) (a .at) (c .before .before .if1 .left)))
+
+in-place : InPlace code.function
+in-place = refl
 
 pub byte-spec : {M : Type 1} → statement M
 byte-spec = tie.close (tie.spec returns shared-slice-read-if2 returns-2 add-t4 returns-3)

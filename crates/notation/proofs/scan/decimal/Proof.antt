@@ -1,7 +1,7 @@
 -- `notation::scan::decimal` meets its contract: all digits are read, there are some and no zero leads others, and the byte ends them. Any other text has no whole number there.
 -- Assumes nothing.
 use Prim.Native.Nat.{ℕ}
-use mathlib.Core.Path.{_≡_, sym, ap, _∙_}
+use mathlib.Core.Path.{_≡_, refl, sym, ap, _∙_}
 use mathlib.Core.Bool.{false≢true}
 use mathlib.Core.List.{List}
 use native.Mathlib.Omega.{arith}
@@ -11,6 +11,8 @@ use borrow.Author.Needs.{needs}
 use Rattle.notation.specs.Reading.{SomeDigits, NoDigit, ledByZero}
 use Rattle.notation.proofs.Written.{decimal-fair, run-spelt}
 use Rattle.notation.proofs.Numbers.{decimal, ended-too-large, ended-unspelt, ended-open, ended-found, some-within, some-led}
+use Rattle.notation.specs.InPlace.{InPlace}
+use Rattle.notation.proofs.scan.decimal.Code as code
 use Rattle.notation.proofs.scan.decimal.Statement.{statement}
 use Rattle.notation.proofs.scan.decimal.Tie as tie
 
@@ -85,6 +87,9 @@ returns-5 c =
     let start = c .before .before .before .before in
     let p = rw (c .enum-told2 .given .1) at (c .before .before .digits .ensures) in
     ended-too-large (decimal (start .args .most)) (start .args .end) (start .pre) (now (start .args .text)) (start .args .at) p
+
+in-place : InPlace code.function
+in-place = refl
 
 pub decimal-spec : {M : Type 1} → statement M
 decimal-spec =

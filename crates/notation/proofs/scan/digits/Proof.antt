@@ -1,11 +1,14 @@
 -- `notation::scan::digits` meets its contract. The invariant: what was passed is a run of digits with the value so far. The measure is what is left of the text. A digit more is another such run, or shows that the value passes `most`; a byte that is no digit ends the run.
 -- Assumes nothing.
+use mathlib.Core.Path.{refl}
 use Prim.Native.Nat.{ℕ, _+_, _*_, _/_, _≤_, _<_, _-_}
 use native.Mathlib.Nat.{div-lt-iff-lt-mul, le-div-iff-mul-le}
 use native.Mathlib.Omega.{arith}
 use lib.ListN.{length}
 use Rattle.notation.specs.Reading.{SomeDigits}
 use Rattle.notation.proofs.Digits.{some-none, some-more, some-over, last-end, last-other}
+use Rattle.notation.specs.InPlace.{InPlace}
+use Rattle.notation.proofs.scan.digits.Code as code
 use Rattle.notation.proofs.scan.digits.Statement.{statement}
 use Rattle.notation.proofs.scan.digits.Tie as tie
 
@@ -60,6 +63,9 @@ loop-again c = some-more _ _ _ _ (c .before .before .before .before .before .bef
 
 returns-4 : tie.Need-returns-4 Inv-loop μ-loop
 returns-4 c = (c .before .loop .inv, last-end _ _ _ (c .loop-test .left))
+
+in-place : InPlace code.function
+in-place = refl
 
 pub digits-spec : {M : Type 1} → statement M
 digits-spec =

@@ -1,12 +1,14 @@
 -- `notation::scan::hex16` meets its contract: all digits are read, there are 16 of them, and the byte ends them. Any other text has no double there.
 -- Assumes nothing.
-use mathlib.Core.Path.{ap}
+use mathlib.Core.Path.{refl, ap}
 use native.Mathlib.Omega.{arith}
 use lib.ListN.{length}
 use denote.Ref.{now}
 use borrow.Author.Needs.{needs}
 use Rattle.notation.proofs.Written.{hex-length, run-hex}
 use Rattle.notation.proofs.Numbers.{hexadecimal, ended-too-large, ended-unspelt, ended-open, ended-found}
+use Rattle.notation.specs.InPlace.{InPlace}
+use Rattle.notation.proofs.scan.hex16.Code as code
 use Rattle.notation.proofs.scan.hex16.Statement.{statement}
 use Rattle.notation.proofs.scan.hex16.Tie as tie
 
@@ -60,6 +62,9 @@ returns-4 c =
     let a = c .before .before .before .before .args in
     let p = rw (c .enum-told2 .given .1) at (c .before .before .digits .ensures) in
     ended-too-large hexadecimal (a .end) (c .before .before .before .before .pre) (now (a .text)) (a .at) p
+
+in-place : InPlace code.function
+in-place = refl
 
 pub hex16-spec : {M : Type 1} → statement M
 hex16-spec =

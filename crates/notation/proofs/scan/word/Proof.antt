@@ -1,64 +1,61 @@
--- `notation::scan::word` meets its contract. The invariant: the first i bytes of the word stand from `at` up to `next`. The measure is what is left of the word.
+-- `notation::scan::word` meets its contract. The invariant: what was passed is letters with the value so far. The measure is what is left of the text.
 -- Assumes nothing.
-use Prim.Native.Nat.{_≤_, _-_}
-use mathlib.Core.List.{_++_}
-use mathlib.Core.Path.{_≡_, refl}
+use Prim.Native.Nat.{_-_}
+use mathlib.Core.Path.{refl, sym, _∙_}
 use native.Mathlib.Omega.{arith}
-use lib.ListN.{length, take, drop}
-use lib.Seq.{take-all}
-use denote.Ref.{now}
-use Rattle.notation.proofs.Digits.{at-end, at-other}
-use Rattle.notation.proofs.Words.{word-more, word-absent, word-found}
+use lib.ListN.{length}
+use borrow.Author.Needs.{needs}
+use borrow.Author.Tests.{not-true, not-false}
+use Rattle.notation.proofs.Words.{Passed, passed-none, passed-more, word-some, word-ends, word-long}
+use Rattle.notation.specs.InPlace.{InPlace}
+use Rattle.notation.proofs.scan.word.Code as code
 use Rattle.notation.proofs.scan.word.Statement.{statement}
 use Rattle.notation.proofs.scan.word.Tie as tie
 
 abbrev Inv-loop : tie.InvT-loop
-Inv-loop text at w next₀ i₀ next i = (i ≤ length w) × (drop at text ≡ take i w ++ drop next text)
+Inv-loop text at value₀ next₀ value next = Passed text at value next
 
 abbrev μ-loop : tie.MeasureT-loop
-μ-loop text at w next₀ i₀ next i = length w - i
+μ-loop text at value₀ next₀ value next = length text - next
 
 loop-holds : tie.Need-loop-holds Inv-loop μ-loop
-loop-holds c = (omega arith, refl)
+loop-holds c = passed-none _ _
 
 returns : tie.Need-returns Inv-loop μ-loop
-returns c =
-    let a = c .before .before .before .args in
-    let l = c .before .before .loop in
-    word-absent (now (a .text)) (now (a .w)) (a .at) (l .next) (l .i) (l .inv .1) (c .before .loop-test .taken) (λ rest. at-end (now (a .text)) (l .next) _ rest (c .if1 .taken))
+returns c = word-long _ _ _ _ (c .before .before .loop .inv) (omega (arith, c .if1 .taken))
 
-shared-slice-read-if2 : tie.Need-shared-slice-read-if2 Inv-loop μ-loop
-shared-slice-read-if2 c = omega arith
+shared-slice-read-b : tie.Need-shared-slice-read-b Inv-loop μ-loop
+shared-slice-read-b c = omega arith
 
-shared-slice-read-if2-2 : tie.Need-shared-slice-read-if2-2 Inv-loop μ-loop
-shared-slice-read-if2-2 c = omega arith
+mul-value : tie.Need-mul-value Inv-loop μ-loop
+mul-value c = omega arith
 
-returns-2 : tie.Need-returns-2 Inv-loop μ-loop
-returns-2 c =
-    let a = c .before .before .before .before .before .before .args in
-    let l = c .before .before .before .before .before .loop in
-    word-absent (now (a .text)) (now (a .w)) (a .at) (l .next) (l .i) (l .inv .1) (c .before .before .before .before .loop-test .taken)
-    (λ rest. at-other (now (a .text)) (l .next) _ rest (c .before .before .before .if1 .left) (c .if2 .taken))
+cast-value : tie.Need-cast-value Inv-loop μ-loop
+cast-value c = let b = c .shared-slice-known2 .given (c .before .before .before .loop .next) in record { fits = omega (arith, b .fits) }
+
+add-value : tie.Need-add-value Inv-loop μ-loop
+add-value c = let b = c .shared-slice-known2 .given (c .before .before .before .loop .next) in record { fits = omega (arith, b .fits) }
 
 add-next : tie.Need-add-next Inv-loop μ-loop
 add-next c = omega arith
 
-add-i : tie.Need-add-i Inv-loop μ-loop
-add-i c = omega arith
+letter-requires : tie.Need-letter-requires Inv-loop μ-loop
+letter-requires c κs = search needs
+
+returns-2 : tie.Need-returns-2 Inv-loop μ-loop
+returns-2 c = word-some _ _ _ _ (c .before .before .before .before .before .loop .inv) (c .before .before .before .before .loop-test .taken) (let b = c .before .before .shared-slice-known2 .given (c .before .before .before .before .before .loop .next) in omega (arith, b .fits)) (sym (c .before .letter .ensures) ∙ not-true _ (c .if2 .taken))
 
 loop-less : tie.Need-loop-less Inv-loop μ-loop
 loop-less c = omega arith
 
 loop-again : tie.Need-loop-again Inv-loop μ-loop
-loop-again c =
-    let a = c .before .before .before .before .before .before .args in
-    let l = c .before .before .before .before .before .loop in
-    (omega arith, word-more (now (a .text)) (now (a .w)) (a .at) (l .next) (l .i) (l .inv .1) (c .before .before .before .before .loop-test .taken) (c .before .before .before .if1 .left) (c .if2 .left))
+loop-again c = passed-more _ _ _ _ (c .before .before .before .before .before .loop .inv) (c .before .before .before .before .loop-test .taken) (sym (c .before .letter .ensures) ∙ not-false _ (c .if2 .left))
 
 returns-3 : tie.Need-returns-3 Inv-loop μ-loop
-returns-3 c =
-    let a = c .before .before .args in
-    word-found (now (a .text)) (now (a .w)) _ _ (rw (take-all _ (now (a .w)) (c .loop-test .left)) at (c .before .loop .inv .1))
+returns-3 c = word-ends _ _ _ _ (c .before .loop .inv) (c .loop-test .left)
+
+in-place : InPlace code.function
+in-place = refl
 
 pub word-spec : {M : Type 1} → statement M
 word-spec =
@@ -68,11 +65,13 @@ word-spec =
     μ-loop
     loop-holds
     returns
-    shared-slice-read-if2
-    shared-slice-read-if2-2
-    returns-2
+    shared-slice-read-b
+    mul-value
+    cast-value
+    add-value
     add-next
-    add-i
+    letter-requires
+    returns-2
     loop-less
     loop-again
     returns-3)

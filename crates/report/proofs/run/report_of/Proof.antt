@@ -1,8 +1,11 @@
 -- The report of what the text is read as. Assumes nothing.
-use mathlib.Core.Path.{refl, sym, ap, _∙_}
+use mathlib.Core.List.{[], _∷_}
+use mathlib.Core.Path.{_≡_, refl, sym, ap, _∙_}
 use Rattle.report.specs.Report.{reportOf}
 use Rattle.report.proofs.Texts.{for-text}
 use borrow.Author.Needs.{needs}
+use Rattle.notation.specs.InPlace.{NoBytes, callsOf}
+use Rattle.report.proofs.run.report_of.Code as code
 use Rattle.report.proofs.run.report_of.Statement.{statement}
 use Rattle.report.proofs.run.report_of.Tie as tie
 
@@ -27,6 +30,12 @@ returns c = for-text _ _ _ (c .before .before .before .before .read .ensures) (c
 returns-2 : tie.Need-returns-2
 unfolding reportOf
 returns-2 c = for-text _ _ _ (c .before .before .before .read .ensures) (rw (c .before .enum-told .given .1, c .empty-simulation .ensures) refl)
+
+in-place : NoBytes code.function
+in-place = refl
+
+calls : callsOf code.function ≡ "description::read" ∷ "report::run::begun" ∷ "builder::state::empty_simulation" ∷ []
+calls = refl
 
 pub report-of-spec : {M : Type 1} → statement M
 report-of-spec =
