@@ -38,7 +38,7 @@ arraysAmong counted (local τ home ∷ ls) = arraysIn counted τ ++ arraysAmong 
 abbrev pub arraysOf : Fn → List ℕ
 arraysOf f = arraysAmong (λ τ. true) (f .locals)
 
-abbrev aByte : Ty → Bool
+abbrev pub aByte : Ty → Bool
 aByte (tyInt w) = eqb (bits w) 8
 aByte tyBool = false
 aByte (tyFloat f) = false
@@ -63,7 +63,7 @@ NoBytes f = byteArraysOf f ≡ []
 
 -- the functions that a function calls, in the order of its text
 abbrev mutual
-  callsIn : Body → List Name
+  pub callsIn : Body → List Name
   callsIn skip = []
   callsIn (seq a b) = callsIn a ++ callsIn b
   callsIn (assign at value) = []
