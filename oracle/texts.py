@@ -1,5 +1,5 @@
 #!/usr/bin/env python3
-"""The texts that the gate's program `texts` answers: those of recorded/texts.txt, and each way in which a line can be wrong.
+"""The texts that the gate's program `texts` answers: those of recorded/texts.txt, and each way in which a line or a word can be wrong.
 
 texts.py stdin    the texts, as crates/texts/stdin has them: five digits of length, LF, the bytes
 texts.py stdout   the oracle's answers, as crates/texts/stdout has them: an empty line after each
@@ -79,10 +79,52 @@ def shapes():
     yield "\0" * len(text)
 
 
+# The words of values: their line's key, the word, and what follows it.
+VALUE_WORDS = [
+    ("limit", "none", ""), ("on", "always:", "3ff0000000000000"), ("off", "uniform:", "0000000000000000:3ff0000000000000"),
+    ("policy", "held:", "3"), ("policy", "grown:", "1:64"), ("policy", "timed:", "4:3ff0000000000000"),
+]
+
+
+def others(word):
+    """Words that are nearly the one given: letters and ends more, fewer or others, up to and past eight bytes."""
+    letters, end = word.rstrip("=:"), word[-1] if word[-1] in "=:" else ""
+    yield letters[:-1] + end
+    yield letters[1:] + end
+    yield letters + letters[-1] + end
+    yield letters[:-1] + chr(ord(letters[-1]) + 1) + end
+    yield letters.capitalize() + end
+    yield letters[:-1] + "\u0101" + end
+    yield letters + ("=" if end == ":" else ":")
+    yield letters + end + end
+    yield letters + "\0" + end
+    yield "\0" + letters + end
+    yield "\0" * 8 + letters + end
+    yield letters.ljust(7, "z") + end
+    yield letters.ljust(8, "z") + end
+    yield letters.rjust(16, "z") + end
+    yield end
+
+
+def words():
+    """Each word of a description with another in its place."""
+    lines = record.describe().splitlines(keepends=True)
+    for i, line in enumerate(lines):
+        key = line[:line.index("=") + 1]
+        for other in others(key):
+            yield "".join(lines[:i] + [other + line[len(key):]] + lines[i + 1:])
+    for key, word, rest in VALUE_WORDS:
+        for other in [word] + list(others(word)):
+            yield record.describe(**{"senders": 0, key: other + rest})
+    for key, word, rest in VALUE_WORDS[1:]:
+        yield record.describe(**{"senders": 0, key: rest})
+        yield record.describe(**{"senders": 0, key: word})
+
+
 def texts():
     """Each text once, as bytes."""
     seen = set()
-    for text in [t for _, t in record.text_cases()] + list(numbers()) + list(shapes()):
+    for text in [t for _, t in record.text_cases()] + list(numbers()) + list(shapes()) + list(words()):
         data = text if isinstance(text, bytes) else text.encode()
         if data not in seen:
             seen.add(data)
