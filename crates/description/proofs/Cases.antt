@@ -3,6 +3,7 @@ use Prim.Native.Nat.{ℕ}
 use mathlib.Core.List.{List, [], _∷_, _++_, append-assoc, cons-eq-cons}
 use mathlib.Core.Path.{sym, _∙_}
 use native.Mathlib.Omega.{arith}
+use lib.ListN.{drop}
 use Rattle.notation.specs.Notation.{lf, colon, decimalOf}
 use Rattle.description.specs.Words.{noneLine}
 use Rattle.notation.specs.Reading.{NoDigit, DigitIs, Found, Absent, wordForm, decimalForm}
@@ -19,10 +20,10 @@ lf-ends = no-digit 10 (digit-none 10 (λ d l e. omega arith) (λ d l h e. omega 
 pub colon-ends : NoDigit 16 (colon ∷ [])
 colon-ends = no-digit 58 (digit-none 58 (λ d l e. omega arith) (λ d l h e. omega arith))
 
--- `none` is no number
-pub no-bits : {text : List ℕ} {at next : ℕ} → Found (wordForm noneLine) text at tt next → Absent (decimalForm most64 lf) text at
-no-bits f = record {
-  none = λ b rest e _.
-      let q = decimal-head b 110 ((lf ∷ []) ++ rest) _ (sym (append-assoc (decimalOf b) (lf ∷ []) rest) ∙ sym e ∙ f .here) in
+-- where a number stands, `none` does not
+pub bits-alone : {text : List ℕ} {at v next : ℕ} → Found (decimalForm most64 lf) text at v next → Absent (wordForm noneLine) text at
+bits-alone {text} {v = v} {next = next} f = record {
+  none = λ _ rest e _.
+      let q = decimal-head v 110 ((lf ∷ []) ++ drop next text) _ (sym (append-assoc (decimalOf v) (lf ∷ []) (drop next text)) ∙ sym (f .here) ∙ e) in
       omega (arith, q .1);
 }

@@ -126,11 +126,11 @@ pub(crate) fn limit_line(text: &[u8], at: usize) -> LimitAt
     ensures { λ r. ⌜ Reads limitForm (now (text .entry)) at (limited r) ⌝ }
 {
     match key(text, at, LIMIT) {
-        Place::At(from) => match key(text, from, NONE) {
-            Place::At(next) => LimitAt::At(Limit::None, next),
-            Place::Refused => match ended(text, from, Kind::Whole(MOST64), b'\n') {
-                Number::At(bits, next) => LimitAt::At(Limit::Bits(bits), next),
-                Number::Refused => LimitAt::Refused,
+        Place::At(from) => match ended(text, from, Kind::Whole(MOST64), b'\n') {
+            Number::At(bits, next) => LimitAt::At(Limit::Bits(bits), next),
+            Number::Refused => match key(text, from, NONE) {
+                Place::At(next) => LimitAt::At(Limit::None, next),
+                Place::Refused => LimitAt::Refused,
             },
         },
         Place::Refused => LimitAt::Refused,

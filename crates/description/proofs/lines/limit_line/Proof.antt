@@ -1,4 +1,4 @@
--- `description::lines::limit_line` meets its contract: a key, then `none` or a number, and no text that begins with `none` begins with a number.
+-- `description::lines::limit_line` meets its contract: a key, then a number or `none`, which does not stand where a number does.
 -- Assumes nothing.
 use mathlib.Core.Path.{refl}
 use denote.Ref.{now}
@@ -9,7 +9,7 @@ use Rattle.description.specs.Words.{limitKey, noneLine}
 use Rattle.description.specs.Lines.{most64}
 use Rattle.notation.proofs.Words.{spelt}
 use Rattle.description.proofs.Forms.{key-absent, key-open, key-found, either-none, either-first, either-second}
-use Rattle.description.proofs.Cases.{lf-ends, no-bits}
+use Rattle.description.proofs.Cases.{lf-ends, bits-alone}
 use Rattle.notation.specs.InPlace.{InPlace}
 use Rattle.description.proofs.lines.limit_line.Code as code
 use Rattle.description.proofs.lines.limit_line.Statement.{statement}
@@ -21,20 +21,20 @@ key-requires c κs = search needs
 enum-known-from : tie.Need-enum-known-from
 enum-known-from c = search needs
 
-key-requires-2 : tie.Need-key-requires-2
-key-requires-2 c κs = search needs
-
-enum-known-next : tie.Need-enum-known-next
-enum-known-next c = search needs
-
-enum-told : tie.Need-enum-told
-enum-told c = search needs
-
 ended-requires : tie.Need-ended-requires
 ended-requires c κs = lf-ends
 
 enum-known-bits : tie.Need-enum-known-bits
 enum-known-bits c = search needs
+
+enum-told : tie.Need-enum-told
+enum-told c = search needs
+
+key-requires-2 : tie.Need-key-requires-2
+key-requires-2 c κs = search needs
+
+enum-known-next : tie.Need-enum-known-next
+enum-known-next c = search needs
 
 enum-told-2 : tie.Need-enum-told-2
 enum-told-2 c = search needs
@@ -49,20 +49,20 @@ keyed-at p = rw (p .from .given .1) at (p .before .before .key .ensures limitKey
 
 returns : tie.Need-returns
 returns c =
-    let none = rw (c .before .next .given .1) at (c .before .before .before .key2 .ensures noneLine (spelt 0 noneLine refl)) in
-    key-found (keyed-at (c .before .before .before .before .before)) (either-first (wordForm noneLine) (decimalForm most64 lf) none (no-bits none))
+    let bits = rw (c .before .bits .given .1) at (c .before .before .before .ended .ensures) in
+    key-found (keyed-at (c .before .before .before .before .before)) (either-second (wordForm noneLine) (decimalForm most64 lf) (bits-alone bits) bits)
 
 returns-2 : tie.Need-returns-2
 returns-2 c =
     key-found (keyed-at (c .before .before .before .before .before .before .before .before))
-    (either-second (wordForm noneLine) (decimalForm most64 lf) (rw (c .before .before .before .before .enum-told .given .1) at (c .before .before .before .before .before .before .key2 .ensures noneLine (spelt 0 noneLine refl)))
-    (rw (c .before .bits .given .1) at (c .before .before .before .ended .ensures)))
+    (either-first (wordForm noneLine) (decimalForm most64 lf) (rw (c .before .next .given .1) at (c .before .before .before .key2 .ensures noneLine (spelt 0 noneLine refl)))
+    (rw (c .before .before .before .before .enum-told .given .1) at (c .before .before .before .before .before .before .ended .ensures)))
 
 returns-3 : tie.Need-returns-3
 returns-3 c =
     key-open (keyed-at (c .before .before .before .before .before .before .before))
-    (either-none (wordForm noneLine) (decimalForm most64 lf) (rw (c .before .before .before .enum-told .given .1) at (c .before .before .before .before .before .key2 .ensures noneLine (spelt 0 noneLine refl)))
-    (rw (c .enum-told2 .given .1) at (c .before .before .ended .ensures)))
+    (either-none (wordForm noneLine) (decimalForm most64 lf) (rw (c .enum-told2 .given .1) at (c .before .before .key2 .ensures noneLine (spelt 0 noneLine refl)))
+    (rw (c .before .before .before .enum-told .given .1) at (c .before .before .before .before .before .ended .ensures)))
 
 returns-4 : tie.Need-returns-4
 returns-4 c = key-absent (either (wordForm noneLine) (decimalForm most64 lf)) (rw (c .enum-told3 .given .1) at (c .before .before .key .ensures limitKey (spelt 0 limitKey refl)))
@@ -76,11 +76,11 @@ limit-line-spec =
     (tie.spec
     key-requires
     enum-known-from
-    key-requires-2
-    enum-known-next
-    enum-told
     ended-requires
     enum-known-bits
+    enum-told
+    key-requires-2
+    enum-known-next
     enum-told-2
     enum-told-3
     returns
