@@ -29,8 +29,9 @@ extern "C" {
    - the two do not overlap, and nothing else writes to text or touches out before the return.
 
    The function keeps nothing between calls, so a run is not taken up: the same text with more ticks
-   gives the longer run (README.md, "A run that goes on"). It allocates nothing; of the C library it
-   needs memcpy and memset. Several threads may call it at once, each with a buffer of its own. */
+   gives the longer run (README.md, "A run that goes on"). It reads text where it lies, with no copy
+   of it, and allocates nothing; of the C library it needs memcpy and memset. Several threads may
+   call it at once, each with a buffer of its own. */
 size_t remyline_print(const uint8_t *text, size_t text_len, uint8_t *out, size_t out_len);
 
 #ifdef __cplusplus
