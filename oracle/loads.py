@@ -1,7 +1,7 @@
 #!/usr/bin/env python3
 """The lists of descriptions that the program `loads` and `oracle loads` read so many times over.
 
-loads.py stdin    a list with each form of a line, twice over, as crates/loads/stdin has it
+loads.py stdin    a list with each form of a line and each line made wrong, to be read twice, as crates/loads/stdin has it
 loads.py stdout   the oracle's answer to it, as crates/loads/stdout has it
 """
 import subprocess

@@ -1,4 +1,5 @@
-// Standard input. No contract sees which bytes a read puts into a buffer: these say how many.
+// Standard input. No contract sees what a read puts into a buffer: these say that the count is at most
+// the buffer's length.
 ghost use Rattle.io.specs.Counts.{Counts};
 
 // Reads until the buffer is full, the input ends or a read fails, and answers how many bytes lie at the

@@ -173,7 +173,7 @@ pub(crate) fn distribution_line(text: &[u8], at: usize, word: u64) -> Distributi
     }
 }
 
-// policy: `held:w`, `grown:f:m` or `timed:m:h`. The first word tells which.
+// policy: `held:w`, `grown:f:m` or `timed:m:h`. The first word of the value tells which.
 pub(crate) fn policy_line(text: &[u8], at: usize) -> PolicyAt
     ensures { λ r. ⌜ Reads policyForm (now (text .entry)) at (governed r) ⌝ }
 {

@@ -1,28 +1,19 @@
 -- A word: it is read in one way, byte by byte, and its value tells it. Assumes nothing.
 use Prim.Native.Nat.{ℕ, _+_, _*_, _^_, _≤_, _<_}
 use mathlib.Core.Bool.{Bool, true, false, cond, false≢true}
-use mathlib.Core.List.{List, [], _∷_, _++_, append-assoc, append-cancel-left, cons-eq-cons}
+use mathlib.Core.List.{List, [], _∷_, _++_, append-cancel-left, cons-eq-cons}
 use mathlib.Core.Path.{_≡_, refl, sym, ap, _∙_, subst}
 use native.Mathlib.Omega.{arith}
 use lib.Dec.{ltb, eqb}
-use lib.ListN.{length, take, drop, getD, take-append-drop}
-use lib.Seq.{drop-cons}
+use lib.ListN.{length, drop, getD}
 use borrow.Author.Tests.{ltb-true, ltb-false, eqb-true, eqb-false}
 use Rattle.notation.specs.Reading.{Found, Absent, wordForm, isLetter, Spells, last, more, SomeWord, NoWord}
 use Rattle.notation.proofs.Digits.{at-byte, at-end}
 
 -- ---- a fixed word
 
--- the first i bytes of the word w stand from at up to next
-pub word-absent : (text w : List ℕ) (at next i : ℕ) → drop at text ≡ take i w ++ drop next text → i < length w
-    → ((rest : List ℕ) → drop next text ≡ getD w i 0 ∷ rest → ⊥) → Absent (wordForm w) text at
-word-absent text w at next i passed h other = record {
-  none = λ _ rest e _.
-      let split : w ++ rest ≡ take i w ++ (drop i w ++ rest) =
-      ap (λ (s : List ℕ). s ++ rest) (sym (take-append-drop i w)) ∙ append-assoc (take i w) (drop i w) rest in
-      let same : drop next text ≡ drop i w ++ rest = append-cancel-left (take i w) _ _ (sym passed ∙ e ∙ split) in
-      other _ (same ∙ ap (λ (s : List ℕ). s ++ rest) (drop-cons w i 0 h));
-}
+pub byte-absent : (text : List ℕ) (at b : ℕ) → ((rest : List ℕ) → drop at text ≡ b ∷ rest → ⊥) → Absent (wordForm (b ∷ [])) text at
+byte-absent text at b other = record { none = λ _ rest e _. other rest e }
 
 pub word-found : (text w : List ℕ) (at next : ℕ) → drop at text ≡ w ++ drop next text → Found (wordForm w) text at tt next
 word-found text w at next e = record {

@@ -8,7 +8,7 @@ use lib.Dec.{eqb}
 use mir.Syntax.{Ty, tyInt, tyBool, tyFloat, tyPtr, tyRef, tyArray, tyUnit, tyStruct, tyEnum, tyNamed, Tys, tnil, tcons, Tyss, ttnil, ttcons, Name, Body, skip, seq, assign, block, loop, cond, switch, exit, return, call, Arms, arm, default, noDefault, Local, local, Fn}
 use mir.Val.{bits}
 
--- the lengths of the arrays that a value of a type holds, of elements that are counted. What a reference is to lies elsewhere
+-- the lengths of the arrays that a value of a type holds, of elements that are counted. What a reference is to lies elsewhere, and a type by its name alone is held nowhere: in a function's code each type that is held is spelled out
 abbrev mutual
   pub arraysIn : (Ty → Bool) → Ty → List ℕ
   arraysIn counted (tyArray τ n) = B.cond (counted τ) (n ∷ []) (arraysIn counted τ)

@@ -120,7 +120,7 @@ pub record SomeWord (text : List ℕ) (at v next : ℕ) : Type 0 where
 pub record NoWord (text : List ℕ) (at : ℕ) : Type 0 where
   pub none : (s rest : List ℕ) (v : ℕ) → drop at text ≡ s ++ rest → Spells 0 s v → v < 2 ^ 64 → ⊥
 
--- the word at a position is read, or there is none
+-- the word at a position is read, or there is none with a value of 64 bits
 abbrev pub ReadsWord : List ℕ → ℕ → ReadResult ℕ → Type 0
 ReadsWord text at (found v next) = SomeWord text at v next
 ReadsWord text at refused = NoWord text at

@@ -1,4 +1,4 @@
--- `console::run` is safe and ends, and the one array of it and of all that handles the input before the reader has the 4,096 bytes that are read into.
+-- `console::run` is safe and ends. Its one array has the 4,096 bytes that are read into, and it calls `fill` and `print_text` alone.
 -- Assumes nothing.
 use mathlib.Core.List.{[], _∷_}
 use mathlib.Core.Path.{_≡_, refl}

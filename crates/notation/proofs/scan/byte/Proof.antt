@@ -2,11 +2,10 @@
 -- Assumes nothing.
 use mathlib.Core.List.{[], _∷_}
 use mathlib.Core.Path.{refl}
-use lib.Dec.{lit<}
 use denote.Ref.{now}
 use borrow.Author.Needs.{needs}
 use Rattle.notation.proofs.Digits.{at-end, at-other, at-byte}
-use Rattle.notation.proofs.Words.{word-absent, word-found}
+use Rattle.notation.proofs.Words.{byte-absent, word-found}
 use Rattle.notation.specs.InPlace.{InPlace}
 use Rattle.notation.proofs.scan.byte.Code as code
 use Rattle.notation.proofs.scan.byte.Statement.{statement}
@@ -15,7 +14,7 @@ use Rattle.notation.proofs.scan.byte.Tie as tie
 returns : tie.Need-returns
 returns c =
     let a = c .before .args in
-    word-absent (now (a .text)) (a .b ∷ []) (a .at) (a .at) 0 refl (lit< tt) (λ rest. at-end (now (a .text)) (a .at) (a .b) rest (c .if1 .taken))
+    byte-absent (now (a .text)) (a .at) (a .b) (λ rest. at-end (now (a .text)) (a .at) (a .b) rest (c .if1 .taken))
 
 shared-slice-read-if2 : tie.Need-shared-slice-read-if2
 shared-slice-read-if2 c = search needs
@@ -23,7 +22,7 @@ shared-slice-read-if2 c = search needs
 returns-2 : tie.Need-returns-2
 returns-2 c =
     let a = c .before .before .before .args in
-    word-absent (now (a .text)) (a .b ∷ []) (a .at) (a .at) 0 refl (lit< tt) (λ rest. at-other (now (a .text)) (a .at) (a .b) rest (c .before .before .if1 .left) (c .if2 .taken))
+    byte-absent (now (a .text)) (a .at) (a .b) (λ rest. at-other (now (a .text)) (a .at) (a .b) rest (c .before .before .if1 .left) (c .if2 .taken))
 
 add-t4 : tie.Need-add-t4
 add-t4 c = search needs
