@@ -3,7 +3,8 @@ use Prim.Native.Nat.{ℕ}
 use mathlib.Core.List.{List, _++_, append-assoc}
 use mathlib.Core.Logic.{_⊎_, inl, inr}
 use mathlib.Core.Path.{_≡_, sym, ap, _∙_}
-use lib.ListN.{drop}
+use native.Mathlib.Omega.{arith}
+use lib.ListN.{drop, length-append}
 use Rattle.notation.specs.Reading.{Form, ReadResult, found, refused, Reads, Found, Absent, wordForm, keyed, pair, either}
 
 -- a value of the first form, then one of the second
@@ -21,6 +22,7 @@ module _ {A B : Type 0} {F : Form A} {G : Form B} {text : List ℕ} {at : ℕ} w
   pair-found {a} {b} {last = last} f g = record {
     fits = (f .fits, g .fits);
     here = f .here ∙ ap (λ (s : List ℕ). F .text a ++ s) (g .here) ∙ sym (append-assoc (F .text a) (G .text b) (drop last text));
+    count = omega (arith, f .count, g .count, length-append (F .text a) (G .text b));
     only = λ w rest e h.
         let u = f .only (w .0) (G .text (w .1) ++ rest) (e ∙ append-assoc (F .text (w .0)) (G .text (w .1)) rest) (h .0) in
         let v = g .only (w .1) rest (sym (u .1)) (h .1) in
@@ -41,6 +43,7 @@ module _ {A : Type 0} {key : List ℕ} {text : List ℕ} {at : ℕ} where
       record {
         fits = g .fits;
         here = p .here;
+        count = p .count;
         only = λ w rest e h. let u = p .only (tt, w) rest e (tt, h) in (ap (λ x. x .1) (u .0), u .1);
       }
 
@@ -58,14 +61,14 @@ module _ {A B : Type 0} (F : Form A) (G : Form B) {text : List ℕ} {at : ℕ} w
       no (inr b) rest e h = g .none b rest e h
 
   pub either-first : {a : A} {next : ℕ} → Found F text at a next → Absent G text at → Found (either F G) text at (inl a) next
-  either-first {a} {next} f g = record { fits = f .fits; here = f .here; only = one }
+  either-first {a} {next} f g = record { fits = f .fits; here = f .here; count = f .count; only = one }
     where
       one : (w : A ⊎ B) (rest : List ℕ) → drop at text ≡ either F G .text w ++ rest → either F G .fits w → (w ≡ inl a) × (rest ≡ drop next text)
       one (inl x) rest e h = let u = f .only x rest e h in (ap inl (u .0), u .1)
       one (inr y) rest e h = absurd (g .none y rest e h)
 
   pub either-second : {b : B} {next : ℕ} → Absent F text at → Found G text at b next → Found (either F G) text at (inr b) next
-  either-second {b} {next} f g = record { fits = g .fits; here = g .here; only = one }
+  either-second {b} {next} f g = record { fits = g .fits; here = g .here; count = g .count; only = one }
     where
       one : (w : A ⊎ B) (rest : List ℕ) → drop at text ≡ either F G .text w ++ rest → either F G .fits w → (w ≡ inr b) × (rest ≡ drop next text)
       one (inl x) rest e h = absurd (f .none x rest e h)

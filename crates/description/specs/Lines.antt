@@ -4,7 +4,7 @@ use mathlib.Core.List.{List}
 use mathlib.Core.Logic.{_⊎_, inl, inr}
 use Rattle.notation.specs.Notation.{lf, colon}
 use Rattle.description.specs.Words.{delayKey, rateKey, lossKey, limitKey, bitsKey, sendersKey, onKey, offKey, policyKey, seedKey, ticksKey, noneLine, alwaysKey, uniformKey, heldKey, grownKey, timedKey}
-use Rattle.notation.specs.Reading.{Form, ReadResult, found, refused, wordForm, hexForm, decimalForm, keyed, pair, either}
+use Rattle.notation.specs.Reading.{Form, ReadResult, found, refused, wordForm, hexForm, decimalForm, keyed, pair, either, Spells}
 use Rattle.description.specs.declared.Limit.{Limit}
 use Rattle.description.specs.declared.Limit.the-variants as L
 use Rattle.description.specs.declared.Distribution.{Distribution}
@@ -31,6 +31,10 @@ use Rattle.description.specs.declared.lines.LoadAt.{LoadAt}
 use Rattle.description.specs.declared.lines.LoadAt.the-variants as O
 use Rattle.description.specs.declared.lines.CourseAt.{CourseAt}
 use Rattle.description.specs.declared.lines.CourseAt.the-variants as C
+
+-- what is said of each word that a number is the value of
+abbrev pub ForWord : ℕ → (List ℕ → Type 0) → Type 0
+ForWord word P = (w : List ℕ) → Spells 0 w word → P w
 
 -- the greatest number of 64 and of 32 bits
 abbrev pub most64 : ℕ

@@ -1,7 +1,7 @@
 // The lines of a description.
 ghost use mathlib.Core.List.{[], _∷_};
-ghost use Rattle.notation.specs.Reading.{Reads, NoDigit, ForWord, numbered, keyed};
-ghost use Rattle.description.specs.Lines.{twofold, limited, distributed, governed, linked, loaded, coursed, kindForm, twoForm, limitForm, distributionValue, distributionForm, policyForm, linkForm, loadForm, courseForm};
+ghost use Rattle.notation.specs.Reading.{Reads, NoDigit, numbered, keyed};
+ghost use Rattle.description.specs.Lines.{ForWord, twofold, limited, distributed, governed, linked, loaded, coursed, kindForm, twoForm, limitForm, distributionValue, distributionForm, policyForm, linkForm, loadForm, courseForm};
 use crate::Distribution;
 use crate::Limit;
 use crate::Policy;
@@ -97,7 +97,7 @@ pub(crate) fn ended(text: &[u8], at: usize, kind: Kind, end: u8) -> Number
 
 // A word, a number, and the byte that ends it.
 //
-// A helper within this crate: the caller gives an end that is no digit.
+// A helper within this crate: the caller gives the value of a word, and an end that is no digit.
 pub(crate) fn value(text: &[u8], at: usize, word: u64, kind: Kind, end: u8) -> Number
     requires { ⌜ NoDigit 16 (end ∷ []) ⌝ }
     ensures { λ r. ⌜ ForWord word (λ w. Reads (keyed w (kindForm kind end)) (now (text .entry)) at (numbered r)) ⌝ }
@@ -137,7 +137,7 @@ pub(crate) fn limit_line(text: &[u8], at: usize) -> LimitAt
     }
 }
 
-// on and off: `always:h` or `uniform:h:h`. The first word tells which.
+// The value of on and off: `always:h` or `uniform:h:h`. The first word tells which.
 pub(crate) fn distribution_value(text: &[u8], at: usize) -> DistributionAt
     ensures { λ r. ⌜ Reads distributionValue (now (text .entry)) at (distributed r) ⌝ }
 {
@@ -164,6 +164,9 @@ pub(crate) fn distribution_value(text: &[u8], at: usize) -> DistributionAt
     }
 }
 
+// on or off.
+//
+// A helper within this crate: the caller gives the value of a word.
 pub(crate) fn distribution_line(text: &[u8], at: usize, word: u64) -> DistributionAt
     ensures { λ r. ⌜ ForWord word (λ w. Reads (distributionForm w) (now (text .entry)) at (distributed r)) ⌝ }
 {

@@ -3,3 +3,4 @@ pub mod Digits
 pub mod Words
 pub mod Written
 mod Numbers
+mod Positions

@@ -63,6 +63,7 @@ module _ (N : Notation) (end : ℕ) (none : NoDigit 16 (end ∷ [])) (text : Lis
           ∙ ap (λ (s : List ℕ). s ++ drop n text) q
           ∙ ap (λ (s : List ℕ). N .write v ++ s) (byte .here)
           ∙ sym (append-assoc (N .write v) (end ∷ []) (drop after text));
+      count = omega (arith, p .count, byte .count, ap length q, length-append (N .write v) (end ∷ []));
       only = λ w rest e h.
           let s = same w rest e h in
           (s .0, byte .only tt rest (sym (s .2)) tt .1);

@@ -7,7 +7,7 @@ use native.Mathlib.Omega.{arith}
 use lib.Dec.{ltb, eqb}
 use lib.ListN.{length, drop, getD}
 use borrow.Author.Tests.{ltb-true, ltb-false, eqb-true, eqb-false}
-use Rattle.notation.specs.Reading.{Found, Absent, wordForm, isLetter, Spells, last, more, SomeWord, NoWord}
+use Rattle.notation.specs.Reading.{refused, ReadsKey, Found, Absent, wordForm, isLetter, Spells, last, more, SomeWord, NoWord}
 use Rattle.notation.proofs.Digits.{at-byte, at-end}
 
 -- ---- a fixed word
@@ -15,10 +15,11 @@ use Rattle.notation.proofs.Digits.{at-byte, at-end}
 pub byte-absent : (text : List ℕ) (at b : ℕ) → ((rest : List ℕ) → drop at text ≡ b ∷ rest → ⊥) → Absent (wordForm (b ∷ [])) text at
 byte-absent text at b other = record { none = λ _ rest e _. other rest e }
 
-pub word-found : (text w : List ℕ) (at next : ℕ) → drop at text ≡ w ++ drop next text → Found (wordForm w) text at tt next
-word-found text w at next e = record {
+pub word-found : (text w : List ℕ) (at next : ℕ) → drop at text ≡ w ++ drop next text → next ≡ at + length w → Found (wordForm w) text at tt next
+word-found text w at next e n = record {
   fits = tt;
   here = e;
+  count = n;
   only = λ _ rest q _. (refl, append-cancel-left w rest (drop next text) (sym q ∙ e));
 }
 
@@ -117,7 +118,8 @@ spelt n (b ∷ s) e = cases (isLetter b) refl (λ h. spelt (n * 256 + b) s h)
 
 pub key-is : (text : List ℕ) (at v next : ℕ) → SomeWord text at v next → (w : List ℕ) (k : ℕ) → Spells 0 w k → v ≡ k → Found (wordForm w) text at tt next
 key-is text at v next some w k r e =
-    word-found text w at next (some .here ∙ ap (λ (s : List ℕ). s ++ drop next text) (spells-once (some .spells) (subst (Spells 0 w) (sym e) r)))
+    let same : some .word ≡ w = spells-once (some .spells) (subst (Spells 0 w) (sym e) r) in
+    word-found text w at next (some .here ∙ ap (λ (s : List ℕ). s ++ drop next text) same) (some .count ∙ ap (λ (s : List ℕ). at + length s) same)
 
 pub key-other : (text : List ℕ) (at v next : ℕ) → SomeWord text at v next → (w : List ℕ) (k : ℕ) → Spells 0 w k → (v ≡ k → ⊥) → Absent (wordForm w) text at
 key-other text at v next some w k r other = record {
@@ -127,20 +129,25 @@ key-other text at v next some w k r other = record {
 pub key-none : (text : List ℕ) (at : ℕ) → NoWord text at → (w : List ℕ) (k : ℕ) → k < 2 ^ 64 → Spells 0 w k → Absent (wordForm w) text at
 key-none text at absent w k h r = record { none = λ _ rest e _. absent .none w rest k e r h }
 
+pub key-missing : (text : List ℕ) (at k : ℕ) → ReadsKey k text at refused → (w : List ℕ) → Spells 0 w k → Absent (wordForm w) text at
+key-missing text at k absent w r = record { none = λ _ rest e _. absent w rest r e }
+
 -- ---- a word as it is read: what stands from next on, after letters of a value, and what stands from at on
 
 pub record Passed (text : List ℕ) (at value next : ℕ) : Type 0 where
-  pub to : (s rest : List ℕ) (v : ℕ) → drop next text ≡ s ++ rest → Spells value s v → (w : List ℕ) × Spells 0 w v × (drop at text ≡ w ++ rest)
+  pub to : (s rest : List ℕ) (v : ℕ) → drop next text ≡ s ++ rest → Spells value s v → (w : List ℕ) × Spells 0 w v × (drop at text ≡ w ++ rest) × (at + length w ≡ next + length s)
   pub from : (w rest : List ℕ) (v : ℕ) → drop at text ≡ w ++ rest → Spells 0 w v → (s : List ℕ) × Spells value s v × (drop next text ≡ s ++ rest)
 
 pub passed-none : (text : List ℕ) (at : ℕ) → Passed text at 0 at
-passed-none text at = record { to = λ s rest v e r. (s, r, e); from = λ s rest v e r. (s, r, e) }
+passed-none text at = record { to = λ s rest v e r. (s, r, e, refl); from = λ s rest v e r. (s, r, e) }
 
 module _ (text : List ℕ) (at value next : ℕ) (p : Passed text at value next) where
   module _ (h : next < length text) where
     pub passed-more : isLetter (getD text next 0) ≡ true → Passed text at (value * 256 + getD text next 0) (next + 1)
     passed-more l = record {
-      to = λ s rest v e r. p .to (getD text next 0 ∷ s) rest v (at-byte text next h ∙ ap (λ (x : List ℕ). getD text next 0 ∷ x) e) (more _ l r);
+      to = λ s rest v e r.
+          let q = p .to (getD text next 0 ∷ s) rest v (at-byte text next h ∙ ap (λ (x : List ℕ). getD text next 0 ∷ x) e) (more _ l r) in
+          (q .0, q .1, q .2, omega (arith, q .3));
       from = λ w rest v e r. let q = p .from w rest v e r in step rest (q .0) v (q .1) (sym (at-byte text next h) ∙ q .2);
     }
       where
@@ -154,7 +161,7 @@ module _ (text : List ℕ) (at value next : ℕ) (p : Passed text at value next)
     pub word-some : getD text next 0 < 256 → isLetter (getD text next 0) ≡ false → SomeWord text at (value * 256 + getD text next 0) (next + 1)
     word-some k l =
         let q = p .to (getD text next 0 ∷ []) (drop (next + 1) text) _ (at-byte text next h) (last _ k l) in
-        record { word = q .0; spells = q .1; here = q .2 }
+        record { word = q .0; spells = q .1; here = q .2; count = omega (arith, q .3) }
 
   pub word-ends : length text ≤ next → NoWord text at
   word-ends h = record { none = λ s rest v e r _. let q = p .from s rest v e r in cut rest (q .0) v (q .1) (q .2) }

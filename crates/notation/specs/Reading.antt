@@ -26,6 +26,7 @@ pub data ReadResult (A : Type 0) : Type 0 where
 pub record Found {A : Type 0} (F : Form A) (text : List ℕ) (at : ℕ) (v : A) (next : ℕ) : Type 0 where
   pub fits : F .fits v
   pub here : drop at text ≡ F .text v ++ drop next text
+  pub count : next ≡ at + length (F .text v)
   pub only : (w : A) (rest : List ℕ) → drop at text ≡ F .text w ++ rest → F .fits w → (w ≡ v) × (rest ≡ drop next text)
 
 -- at the position stands no value in the form
@@ -115,6 +116,7 @@ pub record SomeWord (text : List ℕ) (at v next : ℕ) : Type 0 where
   pub word : List ℕ
   pub spells : Spells 0 word v
   pub here : drop at text ≡ word ++ drop next text
+  pub count : next ≡ at + length word
 
 -- no word with a value of 64 bits stands there
 pub record NoWord (text : List ℕ) (at : ℕ) : Type 0 where
@@ -125,6 +127,7 @@ abbrev pub ReadsWord : List ℕ → ℕ → ReadResult ℕ → Type 0
 ReadsWord text at (found v next) = SomeWord text at v next
 ReadsWord text at refused = NoWord text at
 
--- what is said of each word that a number is the value of
-abbrev pub ForWord : ℕ → (List ℕ → Type 0) → Type 0
-ForWord key P = (w : List ℕ) → Spells 0 w key → P w
+-- the word with a given value is read, or it does not stand there
+abbrev pub ReadsKey : ℕ → List ℕ → ℕ → ReadResult (Unit {0}) → Type 0
+ReadsKey key text at (found _ next) = SomeWord text at key next
+ReadsKey key text at refused = (w rest : List ℕ) → Spells 0 w key → drop at text ≡ w ++ rest → ⊥

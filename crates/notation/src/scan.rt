@@ -1,7 +1,7 @@
 // The parts that every line of a description is made of, read where they lie: a word, a double, a whole
 // number.
 ghost use Prim.Native.Nat.{_≤_, _<_};
-ghost use Rattle.notation.specs.Reading.{Reads, ReadsDigits, ReadsWord, DigitIs, NoDigit, ForWord, placed, numbered, ledByZero, isLetter, wordForm, hexForm, decimalForm};
+ghost use Rattle.notation.specs.Reading.{Reads, ReadsDigits, ReadsWord, ReadsKey, DigitIs, NoDigit, placed, numbered, ledByZero, isLetter, wordForm, hexForm, decimalForm};
 ghost use mathlib.Core.Path.{_≡_};
 ghost use mathlib.Core.List.{[], _∷_};
 
@@ -94,9 +94,9 @@ pub fn word(text: &[u8], at: usize) -> Number
     Number::Refused
 }
 
-// A given word.
+// The word with a given value.
 pub fn key(text: &[u8], at: usize, key: u64) -> Place
-    ensures { λ r. ⌜ ForWord key (λ w. Reads (wordForm w) (now (text .entry)) at (placed r)) ⌝ }
+    ensures { λ r. ⌜ ReadsKey key (now (text .entry)) at (placed r) ⌝ }
 {
     match word(text, at) {
         Number::At(value, next) => {

@@ -7,7 +7,7 @@ use Rattle.notation.specs.Notation.{lf}
 use Rattle.notation.specs.Reading.{Found, wordForm, decimalForm, either}
 use Rattle.description.specs.Words.{limitKey, noneLine}
 use Rattle.description.specs.Lines.{most64}
-use Rattle.notation.proofs.Words.{spelt}
+use Rattle.notation.proofs.Words.{spelt, key-is, key-missing}
 use Rattle.description.proofs.Forms.{key-absent, key-open, key-found, either-none, either-first, either-second}
 use Rattle.description.proofs.Cases.{lf-ends, bits-alone}
 use Rattle.notation.specs.InPlace.{InPlace}
@@ -45,7 +45,7 @@ enum-told-3 c = search needs
 -- the key was read
 keyed-at : (p : tie.After-from) → let a = p .before .before .before .before .args in
     Found (wordForm limitKey) (now (a .text)) (a .at) tt (p .from .given .0 .0)
-keyed-at p = rw (p .from .given .1) at (p .before .before .key .ensures limitKey (spelt 0 limitKey refl))
+keyed-at p = key-is _ _ _ _ (rw (p .from .given .1) at (p .before .before .key .ensures)) limitKey _ (spelt 0 limitKey refl) refl
 
 returns : tie.Need-returns
 returns c =
@@ -55,17 +55,17 @@ returns c =
 returns-2 : tie.Need-returns-2
 returns-2 c =
     key-found (keyed-at (c .before .before .before .before .before .before .before .before))
-    (either-first (wordForm noneLine) (decimalForm most64 lf) (rw (c .before .next .given .1) at (c .before .before .before .key2 .ensures noneLine (spelt 0 noneLine refl)))
+    (either-first (wordForm noneLine) (decimalForm most64 lf) (key-is _ _ _ _ (rw (c .before .next .given .1) at (c .before .before .before .key2 .ensures)) noneLine _ (spelt 0 noneLine refl) refl)
     (rw (c .before .before .before .before .enum-told .given .1) at (c .before .before .before .before .before .before .ended .ensures)))
 
 returns-3 : tie.Need-returns-3
 returns-3 c =
     key-open (keyed-at (c .before .before .before .before .before .before .before))
-    (either-none (wordForm noneLine) (decimalForm most64 lf) (rw (c .enum-told2 .given .1) at (c .before .before .key2 .ensures noneLine (spelt 0 noneLine refl)))
+    (either-none (wordForm noneLine) (decimalForm most64 lf) (key-missing _ _ _ (rw (c .enum-told2 .given .1) at (c .before .before .key2 .ensures)) noneLine (spelt 0 noneLine refl))
     (rw (c .before .before .before .enum-told .given .1) at (c .before .before .before .before .before .ended .ensures)))
 
 returns-4 : tie.Need-returns-4
-returns-4 c = key-absent (either (wordForm noneLine) (decimalForm most64 lf)) (rw (c .enum-told3 .given .1) at (c .before .before .key .ensures limitKey (spelt 0 limitKey refl)))
+returns-4 c = key-absent (either (wordForm noneLine) (decimalForm most64 lf)) (key-missing _ _ _ (rw (c .enum-told3 .given .1) at (c .before .before .key .ensures)) limitKey (spelt 0 limitKey refl))
 
 in-place : InPlace code.function
 in-place = refl

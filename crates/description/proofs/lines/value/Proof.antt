@@ -4,6 +4,7 @@ use mathlib.Core.Path.{refl}
 use borrow.Author.Needs.{needs}
 use Rattle.notation.specs.Reading.{numbered}
 use Rattle.description.specs.Lines.{kindForm}
+use Rattle.notation.proofs.Words.{key-is, key-missing}
 use Rattle.description.proofs.Forms.{key-absent, key-then}
 use Rattle.notation.specs.InPlace.{InPlace}
 use Rattle.description.proofs.lines.value.Code as code
@@ -25,10 +26,10 @@ enum-told c = search needs
 returns : tie.Need-returns
 returns c w r =
     let a = c .before .before .before .before .before .before .args in
-    key-then (kindForm (a .kind) (a .end)) (rw (c .before .before .next .given .1) at (c .before .before .before .before .key .ensures w r)) (numbered (c .ended .result)) (c .ended .ensures)
+    key-then (kindForm (a .kind) (a .end)) (key-is _ _ _ _ (rw (c .before .before .next .given .1) at (c .before .before .before .before .key .ensures)) w _ r refl) (numbered (c .ended .result)) (c .ended .ensures)
 
 returns-2 : tie.Need-returns-2
-returns-2 c w r = let a = c .before .before .before .before .args in key-absent (kindForm (a .kind) (a .end)) (rw (c .enum-told .given .1) at (c .before .before .key .ensures w r))
+returns-2 c w r = let a = c .before .before .before .before .args in key-absent (kindForm (a .kind) (a .end)) (key-missing _ _ _ (rw (c .enum-told .given .1) at (c .before .before .key .ensures)) w r)
 
 in-place : InPlace code.function
 in-place = refl

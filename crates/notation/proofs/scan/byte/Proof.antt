@@ -30,7 +30,7 @@ add-t4 c = search needs
 returns-3 : tie.Need-returns-3
 returns-3 c =
     let a = c .before .before .before .args in
-    word-found (now (a .text)) (a .b ∷ []) _ _ (rw (c .if2 .left) at (at-byte (now (a .text)) (a .at) (c .before .before .if1 .left)))
+    word-found (now (a .text)) (a .b ∷ []) _ _ (rw (c .if2 .left) at (at-byte (now (a .text)) (a .at) (c .before .before .if1 .left))) refl
 
 in-place : InPlace code.function
 in-place = refl

@@ -1,10 +1,11 @@
 -- `notation::scan::key` meets its contract: the word that was read is the given one where their values are equal, and is another where they are not.
 -- Assumes nothing.
-use mathlib.Core.Path.{refl}
+use Prim.Native.Nat.{ℕ}
+use mathlib.Core.Path.{refl, subst}
 use denote.Ref.{now}
 use borrow.Author.Needs.{needs}
 use Rattle.notation.specs.Reading.{SomeWord}
-use Rattle.notation.proofs.Words.{key-is, key-other, key-none}
+use Rattle.notation.proofs.Words.{key-other, key-none}
 use Rattle.notation.specs.InPlace.{InPlace}
 use Rattle.notation.proofs.scan.key.Code as code
 use Rattle.notation.proofs.scan.key.Statement.{statement}
@@ -22,18 +23,21 @@ read : (p : tie.After-value) → let a = p .before .before .before .before .args
 read p = rw (p .value .given .1) at (p .before .before .word .ensures)
 
 returns : tie.Need-returns
-returns c w r = key-is _ _ _ _ (read (c .before .before)) w _ r (c .if1 .taken)
+returns c =
+    let p = c .before .before in
+    let a = p .before .before .before .before .args in
+    subst (λ (v : ℕ). SomeWord (now (a .text)) (a .at) v (p .value .given .0 .1 .0)) (c .if1 .taken) (read p)
 
 enum-told : tie.Need-enum-told
 enum-told c = search needs
 
 returns-2 : tie.Need-returns-2
-returns-2 c w r = key-other _ _ _ _ (read (c .before .before)) w _ r (c .if1 .left)
+returns-2 c w rest r e = key-other _ _ _ _ (read (c .before .before)) w _ r (c .if1 .left) .none tt rest e tt
 
 returns-3 : tie.Need-returns-3
-returns-3 c w r =
+returns-3 c w rest r e =
     let start = c .before .before .before .before in
-    key-none _ _ (rw (c .enum-told .given .1) at (c .before .before .word .ensures)) w _ (start .fits .key .fits) r
+    key-none _ _ (rw (c .enum-told .given .1) at (c .before .before .word .ensures)) w _ (start .fits .key .fits) r .none tt rest e tt
 
 in-place : InPlace code.function
 in-place = refl
