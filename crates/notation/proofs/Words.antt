@@ -7,7 +7,7 @@ use native.Mathlib.Omega.{arith}
 use lib.Dec.{ltb, eqb}
 use lib.ListN.{length, drop, getD}
 use borrow.Author.Tests.{ltb-true, ltb-false, eqb-true, eqb-false}
-use Rattle.notation.specs.Reading.{refused, ReadsKey, Found, Absent, wordForm, isLetter, Spells, last, more, SomeWord, NoWord}
+use Rattle.notation.specs.Reading.{Found, Absent, wordForm, isLetter, Spells, last, more, SomeWord, NoWord}
 use Rattle.notation.proofs.Digits.{at-byte, at-end}
 
 -- ---- a fixed word
@@ -128,9 +128,6 @@ key-other text at v next some w k r other = record {
 
 pub key-none : (text : List ℕ) (at : ℕ) → NoWord text at → (w : List ℕ) (k : ℕ) → k < 2 ^ 64 → Spells 0 w k → Absent (wordForm w) text at
 key-none text at absent w k h r = record { none = λ _ rest e _. absent .none w rest k e r h }
-
-pub key-missing : (text : List ℕ) (at k : ℕ) → ReadsKey k text at refused → (w : List ℕ) → Spells 0 w k → Absent (wordForm w) text at
-key-missing text at k absent w r = record { none = λ _ rest e _. absent w rest r e }
 
 -- ---- a word as it is read: what stands from next on, after letters of a value, and what stands from at on
 

@@ -130,4 +130,4 @@ ReadsWord text at refused = NoWord text at
 -- the word with a given value is read, or it does not stand there
 abbrev pub ReadsKey : ℕ → List ℕ → ℕ → ReadResult (Unit {0}) → Type 0
 ReadsKey key text at (found _ next) = SomeWord text at key next
-ReadsKey key text at refused = (w rest : List ℕ) → Spells 0 w key → drop at text ≡ w ++ rest → ⊥
+ReadsKey key text at refused = (w : List ℕ) → Spells 0 w key → Absent (wordForm w) text at

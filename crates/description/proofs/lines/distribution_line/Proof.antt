@@ -3,7 +3,7 @@
 use mathlib.Core.Path.{refl}
 use borrow.Author.Needs.{needs}
 use Rattle.description.specs.Lines.{distributed, distributionValue}
-use Rattle.notation.proofs.Words.{key-is, key-missing}
+use Rattle.notation.proofs.Words.{key-is}
 use Rattle.description.proofs.Forms.{key-absent, key-then}
 use Rattle.notation.specs.InPlace.{InPlace}
 use Rattle.description.proofs.lines.distribution_line.Code as code
@@ -26,7 +26,7 @@ returns : tie.Need-returns
 returns c w r = key-then distributionValue (key-is _ _ _ _ (rw (c .before .before .next .given .1) at (c .before .before .before .before .key .ensures)) w _ r refl) (distributed (c .distribution-value .result)) (c .distribution-value .ensures)
 
 returns-2 : tie.Need-returns-2
-returns-2 c w r = key-absent distributionValue (key-missing _ _ _ (rw (c .enum-told .given .1) at (c .before .before .key .ensures)) w r)
+returns-2 c w r = key-absent distributionValue ((rw (c .enum-told .given .1) at (c .before .before .key .ensures)) w r)
 
 in-place : InPlace code.function
 in-place = refl

@@ -7,7 +7,7 @@ use Rattle.notation.specs.Notation.{lf}
 use Rattle.notation.specs.Reading.{Found, wordForm, decimalForm, either}
 use Rattle.description.specs.Words.{limitKey, noneLine}
 use Rattle.description.specs.Lines.{most64}
-use Rattle.notation.proofs.Words.{spelt, key-is, key-missing}
+use Rattle.notation.proofs.Words.{spelt, key-is}
 use Rattle.description.proofs.Forms.{key-absent, key-open, key-found, either-none, either-first, either-second}
 use Rattle.description.proofs.Cases.{lf-ends, bits-alone}
 use Rattle.notation.specs.InPlace.{InPlace}
@@ -61,11 +61,11 @@ returns-2 c =
 returns-3 : tie.Need-returns-3
 returns-3 c =
     key-open (keyed-at (c .before .before .before .before .before .before .before))
-    (either-none (wordForm noneLine) (decimalForm most64 lf) (key-missing _ _ _ (rw (c .enum-told2 .given .1) at (c .before .before .key2 .ensures)) noneLine (spelt 0 noneLine refl))
+    (either-none (wordForm noneLine) (decimalForm most64 lf) ((rw (c .enum-told2 .given .1) at (c .before .before .key2 .ensures)) noneLine (spelt 0 noneLine refl))
     (rw (c .before .before .before .enum-told .given .1) at (c .before .before .before .before .before .ended .ensures)))
 
 returns-4 : tie.Need-returns-4
-returns-4 c = key-absent (either (wordForm noneLine) (decimalForm most64 lf)) (key-missing _ _ _ (rw (c .enum-told3 .given .1) at (c .before .before .key .ensures)) limitKey (spelt 0 limitKey refl))
+returns-4 c = key-absent (either (wordForm noneLine) (decimalForm most64 lf)) ((rw (c .enum-told3 .given .1) at (c .before .before .key .ensures)) limitKey (spelt 0 limitKey refl))
 
 in-place : InPlace code.function
 in-place = refl

@@ -9,7 +9,7 @@ use Rattle.notation.specs.Reading.{Found, SomeWord, wordForm, decimalForm, eith
 use Rattle.description.specs.declared.lines.Kind.the-variants as E
 use Rattle.description.specs.Words.{policyKey, heldKey, grownKey, timedKey}
 use Rattle.description.specs.Lines.{most32, twoForm, heldForm, grownForm, timedForm}
-use Rattle.notation.proofs.Words.{spelt, key-missing, key-is, key-other, key-none}
+use Rattle.notation.proofs.Words.{spelt, key-is, key-other, key-none}
 use Rattle.description.proofs.Forms.{key-absent, key-open, key-found, either-none, either-first, either-second}
 use Rattle.description.proofs.Cases.{lf-ends}
 use Rattle.notation.specs.InPlace.{InPlace}
@@ -141,7 +141,7 @@ returns-8 c =
     (either-none grownForm timedForm (key-absent (twoForm (E.Whole most32) (E.Whole most32)) (key-none _ _ absent grownKey _ (omega arith) (spelt 0 grownKey refl))) (key-absent (twoForm (E.Whole most32) E.Double) (key-none _ _ absent timedKey _ (omega arith) (spelt 0 timedKey refl)))))
 
 returns-9 : tie.Need-returns-9
-returns-9 c = key-absent (either heldForm (either grownForm timedForm)) (key-missing _ _ _ (rw (c .enum-told5 .given .1) at (c .before .before .key .ensures)) policyKey (spelt 0 policyKey refl))
+returns-9 c = key-absent (either heldForm (either grownForm timedForm)) ((rw (c .enum-told5 .given .1) at (c .before .before .key .ensures)) policyKey (spelt 0 policyKey refl))
 
 in-place : InPlace code.function
 in-place = refl

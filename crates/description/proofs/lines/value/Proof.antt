@@ -4,7 +4,7 @@ use mathlib.Core.Path.{refl}
 use borrow.Author.Needs.{needs}
 use Rattle.notation.specs.Reading.{numbered}
 use Rattle.description.specs.Lines.{kindForm}
-use Rattle.notation.proofs.Words.{key-is, key-missing}
+use Rattle.notation.proofs.Words.{key-is}
 use Rattle.description.proofs.Forms.{key-absent, key-then}
 use Rattle.notation.specs.InPlace.{InPlace}
 use Rattle.description.proofs.lines.value.Code as code
@@ -29,7 +29,7 @@ returns c w r =
     key-then (kindForm (a .kind) (a .end)) (key-is _ _ _ _ (rw (c .before .before .next .given .1) at (c .before .before .before .before .key .ensures)) w _ r refl) (numbered (c .ended .result)) (c .ended .ensures)
 
 returns-2 : tie.Need-returns-2
-returns-2 c w r = let a = c .before .before .before .before .args in key-absent (kindForm (a .kind) (a .end)) (key-missing _ _ _ (rw (c .enum-told .given .1) at (c .before .before .key .ensures)) w r)
+returns-2 c w r = let a = c .before .before .before .before .args in key-absent (kindForm (a .kind) (a .end)) ((rw (c .enum-told .given .1) at (c .before .before .key .ensures)) w r)
 
 in-place : InPlace code.function
 in-place = refl
