@@ -116,18 +116,19 @@ spelt n (b ∷ s) e = cases (isLetter b) refl (λ h. spelt (n * 256 + b) s h)
 
 -- ---- a word that was read, beside a given one
 
-pub key-is : (text : List ℕ) (at v next : ℕ) → SomeWord text at v next → (w : List ℕ) (k : ℕ) → Spells 0 w k → v ≡ k → Found (wordForm w) text at tt next
-key-is text at v next some w k r e =
-    let same : some .word ≡ w = spells-once (some .spells) (subst (Spells 0 w) (sym e) r) in
-    word-found text w at next (some .here ∙ ap (λ (s : List ℕ). s ++ drop next text) same) (some .count ∙ ap (λ (s : List ℕ). at + length s) same)
+module _ {text : List ℕ} {at : ℕ} {w : List ℕ} {k : ℕ} (r : Spells 0 w k) where
+  pub key-is : {v next : ℕ} → SomeWord text at v next → v ≡ k → Found (wordForm w) text at tt next
+  key-is {next = next} some e =
+      let same : some .word ≡ w = spells-once (some .spells) (subst (Spells 0 w) (sym e) r) in
+      word-found text w at next (some .here ∙ ap (λ (s : List ℕ). s ++ drop next text) same) (some .count ∙ ap (λ (s : List ℕ). at + length s) same)
 
-pub key-other : (text : List ℕ) (at v next : ℕ) → SomeWord text at v next → (w : List ℕ) (k : ℕ) → Spells 0 w k → (v ≡ k → ⊥) → Absent (wordForm w) text at
-key-other text at v next some w k r other = record {
-  none = λ _ rest e _. other (spells-same (drop next text) rest (some .spells) r (sym (some .here) ∙ e));
-}
+  pub key-other : {v next : ℕ} → SomeWord text at v next → (v ≡ k → ⊥) → Absent (wordForm w) text at
+  key-other {next = next} some other = record {
+    none = λ _ rest e _. other (spells-same (drop next text) rest (some .spells) r (sym (some .here) ∙ e));
+  }
 
-pub key-none : (text : List ℕ) (at : ℕ) → NoWord text at → (w : List ℕ) (k : ℕ) → k < 2 ^ 64 → Spells 0 w k → Absent (wordForm w) text at
-key-none text at absent w k h r = record { none = λ _ rest e _. absent .none w rest k e r h }
+  pub key-none : NoWord text at → k < 2 ^ 64 → Absent (wordForm w) text at
+  key-none absent h = record { none = λ _ rest e _. absent .none w rest k e r h }
 
 -- ---- a word as it is read: what stands from next on, after letters of a value, and what stands from at on
 

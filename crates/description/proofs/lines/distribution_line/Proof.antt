@@ -23,7 +23,7 @@ enum-told : tie.Need-enum-told
 enum-told c = search needs
 
 returns : tie.Need-returns
-returns c w r = key-then distributionValue (key-is _ _ _ _ (rw (c .before .before .next .given .1) at (c .before .before .before .before .key .ensures)) w _ r refl) (distributed (c .distribution-value .result)) (c .distribution-value .ensures)
+returns c w r = key-then distributionValue (key-is r (rw (c .before .before .next .given .1) at (c .before .before .before .before .key .ensures)) refl) (distributed (c .distribution-value .result)) (c .distribution-value .ensures)
 
 returns-2 : tie.Need-returns-2
 returns-2 c w r = key-absent distributionValue ((rw (c .enum-told .given .1) at (c .before .before .key .ensures)) w r)

@@ -39,13 +39,13 @@ read p = rw (p .first .given .1) at (p .before .before .word .ensures)
 
 returns : tie.Need-returns
 returns c =
-    either-first alwaysForm uniformForm (key-found (key-is _ _ _ _ (read (c .before .before .before .before .before .before)) alwaysKey _ (spelt 0 alwaysKey refl) (c .before .before .before .before .if1 .taken)) (rw (c .before .v .given .1) at (c .before .before .before .ended .ensures)))
-    (key-absent (twoForm E.Double E.Double) (key-other _ _ _ _ (read (c .before .before .before .before .before .before)) uniformKey _ (spelt 0 uniformKey refl) (λ e. omega (arith, e, c .before .before .before .before .if1 .taken))))
+    either-first alwaysForm uniformForm (key-found (key-is (spelt 0 alwaysKey refl) (read (c .before .before .before .before .before .before)) (c .before .before .before .before .if1 .taken)) (rw (c .before .v .given .1) at (c .before .before .before .ended .ensures)))
+    (key-absent (twoForm E.Double E.Double) (key-other (spelt 0 uniformKey refl) (read (c .before .before .before .before .before .before)) (λ e. omega (arith, e, c .before .before .before .before .if1 .taken))))
 
 returns-2 : tie.Need-returns-2
 returns-2 c =
-    either-none alwaysForm uniformForm (key-open (key-is _ _ _ _ (read (c .before .before .before .before .before)) alwaysKey _ (spelt 0 alwaysKey refl) (c .before .before .before .if1 .taken)) (rw (c .enum-told .given .1) at (c .before .before .ended .ensures)))
-    (key-absent (twoForm E.Double E.Double) (key-other _ _ _ _ (read (c .before .before .before .before .before)) uniformKey _ (spelt 0 uniformKey refl) (λ e. omega (arith, e, c .before .before .before .if1 .taken))))
+    either-none alwaysForm uniformForm (key-open (key-is (spelt 0 alwaysKey refl) (read (c .before .before .before .before .before)) (c .before .before .before .if1 .taken)) (rw (c .enum-told .given .1) at (c .before .before .ended .ensures)))
+    (key-absent (twoForm E.Double E.Double) (key-other (spelt 0 uniformKey refl) (read (c .before .before .before .before .before)) (λ e. omega (arith, e, c .before .before .before .if1 .taken))))
 
 both-requires : tie.Need-both-requires
 both-requires c κs = search needs
@@ -58,24 +58,24 @@ enum-told-2 c = search needs
 
 returns-3 : tie.Need-returns-3
 returns-3 c =
-    either-second alwaysForm uniformForm (key-absent (hexForm lf) (key-other _ _ _ _ (read (c .before .before .before .before .before .before .before)) alwaysKey _ (spelt 0 alwaysKey refl) (c .before .before .before .before .before .if1 .left)))
-    (key-found (key-is _ _ _ _ (read (c .before .before .before .before .before .before .before)) uniformKey _ (spelt 0 uniformKey refl) (c .before .before .before .before .if2 .taken)) (rw (c .before .min .given .1) at (c .before .before .before .both .ensures)))
+    either-second alwaysForm uniformForm (key-absent (hexForm lf) (key-other (spelt 0 alwaysKey refl) (read (c .before .before .before .before .before .before .before)) (c .before .before .before .before .before .if1 .left)))
+    (key-found (key-is (spelt 0 uniformKey refl) (read (c .before .before .before .before .before .before .before)) (c .before .before .before .before .if2 .taken)) (rw (c .before .min .given .1) at (c .before .before .before .both .ensures)))
 
 returns-4 : tie.Need-returns-4
 returns-4 c =
-    either-none alwaysForm uniformForm (key-absent (hexForm lf) (key-other _ _ _ _ (read (c .before .before .before .before .before .before)) alwaysKey _ (spelt 0 alwaysKey refl) (c .before .before .before .before .if1 .left)))
-    (key-open (key-is _ _ _ _ (read (c .before .before .before .before .before .before)) uniformKey _ (spelt 0 uniformKey refl) (c .before .before .before .if2 .taken)) (rw (c .enum-told2 .given .1) at (c .before .before .both .ensures)))
+    either-none alwaysForm uniformForm (key-absent (hexForm lf) (key-other (spelt 0 alwaysKey refl) (read (c .before .before .before .before .before .before)) (c .before .before .before .before .if1 .left)))
+    (key-open (key-is (spelt 0 uniformKey refl) (read (c .before .before .before .before .before .before)) (c .before .before .before .if2 .taken)) (rw (c .enum-told2 .given .1) at (c .before .before .both .ensures)))
 
 enum-told-3 : tie.Need-enum-told-3
 enum-told-3 c = search needs
 
 returns-5 : tie.Need-returns-5
-returns-5 c = either-none alwaysForm uniformForm (key-absent (hexForm lf) (key-other _ _ _ _ (read (c .before .before .before)) alwaysKey _ (spelt 0 alwaysKey refl) (c .before .if1 .left))) (key-absent (twoForm E.Double E.Double) (key-other _ _ _ _ (read (c .before .before .before)) uniformKey _ (spelt 0 uniformKey refl) (c .if2 .left)))
+returns-5 c = either-none alwaysForm uniformForm (key-absent (hexForm lf) (key-other (spelt 0 alwaysKey refl) (read (c .before .before .before)) (c .before .if1 .left))) (key-absent (twoForm E.Double E.Double) (key-other (spelt 0 uniformKey refl) (read (c .before .before .before)) (c .if2 .left)))
 
 returns-6 : tie.Need-returns-6
 returns-6 c =
     let absent = rw (c .enum-told3 .given .1) at (c .before .before .word .ensures) in
-    either-none alwaysForm uniformForm (key-absent (hexForm lf) (key-none _ _ absent alwaysKey _ (omega arith) (spelt 0 alwaysKey refl))) (key-absent (twoForm E.Double E.Double) (key-none _ _ absent uniformKey _ (omega arith) (spelt 0 uniformKey refl)))
+    either-none alwaysForm uniformForm (key-absent (hexForm lf) (key-none (spelt 0 alwaysKey refl) absent (omega arith))) (key-absent (twoForm E.Double E.Double) (key-none (spelt 0 uniformKey refl) absent (omega arith)))
 
 in-place : InPlace code.function
 in-place = refl

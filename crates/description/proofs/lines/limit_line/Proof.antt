@@ -45,7 +45,7 @@ enum-told-3 c = search needs
 -- the key was read
 keyed-at : (p : tie.After-from) → let a = p .before .before .before .before .args in
     Found (wordForm limitKey) (now (a .text)) (a .at) tt (p .from .given .0 .0)
-keyed-at p = key-is _ _ _ _ (rw (p .from .given .1) at (p .before .before .key .ensures)) limitKey _ (spelt 0 limitKey refl) refl
+keyed-at p = key-is (spelt 0 limitKey refl) (rw (p .from .given .1) at (p .before .before .key .ensures)) refl
 
 returns : tie.Need-returns
 returns c =
@@ -55,7 +55,7 @@ returns c =
 returns-2 : tie.Need-returns-2
 returns-2 c =
     key-found (keyed-at (c .before .before .before .before .before .before .before .before))
-    (either-first (wordForm noneLine) (decimalForm most64 lf) (key-is _ _ _ _ (rw (c .before .next .given .1) at (c .before .before .before .key2 .ensures)) noneLine _ (spelt 0 noneLine refl) refl)
+    (either-first (wordForm noneLine) (decimalForm most64 lf) (key-is (spelt 0 noneLine refl) (rw (c .before .next .given .1) at (c .before .before .before .key2 .ensures)) refl)
     (rw (c .before .before .before .before .enum-told .given .1) at (c .before .before .before .before .before .before .ended .ensures)))
 
 returns-3 : tie.Need-returns-3

@@ -44,7 +44,7 @@ enum-told c = search needs
 -- the key was read
 keyed-at : (p : tie.After-from) → let a = p .before .before .before .before .args in
     Found (wordForm policyKey) (now (a .text)) (a .at) tt (p .from .given .0 .0)
-keyed-at p = key-is _ _ _ _ (rw (p .from .given .1) at (p .before .before .key .ensures)) policyKey _ (spelt 0 policyKey refl) refl
+keyed-at p = key-is (spelt 0 policyKey refl) (rw (p .from .given .1) at (p .before .before .key .ensures)) refl
 
 -- the word after it was read
 read : (p : tie.After-first) → let f = p .before .before .before .before in
@@ -54,16 +54,16 @@ read p = rw (p .first .given .1) at (p .before .before .word .ensures)
 returns : tie.Need-returns
 returns c =
     key-found (keyed-at (c .before .before .before .before .before .before .before .before .before .before))
-    (either-first heldForm (either grownForm timedForm) (key-found (key-is _ _ _ _ (read (c .before .before .before .before .before .before)) heldKey _ (spelt 0 heldKey refl) (c .before .before .before .before .if1 .taken)) (rw (c .before .w .given .1) at (c .before .before .before .ended .ensures)))
-    (either-none grownForm timedForm (key-absent (twoForm (E.Whole most32) (E.Whole most32)) (key-other _ _ _ _ (read (c .before .before .before .before .before .before)) grownKey _ (spelt 0 grownKey refl) (λ e. omega (arith, e, c .before .before .before .before .if1 .taken))))
-    (key-absent (twoForm (E.Whole most32) E.Double) (key-other _ _ _ _ (read (c .before .before .before .before .before .before)) timedKey _ (spelt 0 timedKey refl) (λ e. omega (arith, e, c .before .before .before .before .if1 .taken))))))
+    (either-first heldForm (either grownForm timedForm) (key-found (key-is (spelt 0 heldKey refl) (read (c .before .before .before .before .before .before)) (c .before .before .before .before .if1 .taken)) (rw (c .before .w .given .1) at (c .before .before .before .ended .ensures)))
+    (either-none grownForm timedForm (key-absent (twoForm (E.Whole most32) (E.Whole most32)) (key-other (spelt 0 grownKey refl) (read (c .before .before .before .before .before .before)) (λ e. omega (arith, e, c .before .before .before .before .if1 .taken))))
+    (key-absent (twoForm (E.Whole most32) E.Double) (key-other (spelt 0 timedKey refl) (read (c .before .before .before .before .before .before)) (λ e. omega (arith, e, c .before .before .before .before .if1 .taken))))))
 
 returns-2 : tie.Need-returns-2
 returns-2 c =
     key-open (keyed-at (c .before .before .before .before .before .before .before .before .before))
-    (either-none heldForm (either grownForm timedForm) (key-open (key-is _ _ _ _ (read (c .before .before .before .before .before)) heldKey _ (spelt 0 heldKey refl) (c .before .before .before .if1 .taken)) (rw (c .enum-told .given .1) at (c .before .before .ended .ensures)))
-    (either-none grownForm timedForm (key-absent (twoForm (E.Whole most32) (E.Whole most32)) (key-other _ _ _ _ (read (c .before .before .before .before .before)) grownKey _ (spelt 0 grownKey refl) (λ e. omega (arith, e, c .before .before .before .if1 .taken))))
-    (key-absent (twoForm (E.Whole most32) E.Double) (key-other _ _ _ _ (read (c .before .before .before .before .before)) timedKey _ (spelt 0 timedKey refl) (λ e. omega (arith, e, c .before .before .before .if1 .taken))))))
+    (either-none heldForm (either grownForm timedForm) (key-open (key-is (spelt 0 heldKey refl) (read (c .before .before .before .before .before)) (c .before .before .before .if1 .taken)) (rw (c .enum-told .given .1) at (c .before .before .ended .ensures)))
+    (either-none grownForm timedForm (key-absent (twoForm (E.Whole most32) (E.Whole most32)) (key-other (spelt 0 grownKey refl) (read (c .before .before .before .before .before)) (λ e. omega (arith, e, c .before .before .before .if1 .taken))))
+    (key-absent (twoForm (E.Whole most32) E.Double) (key-other (spelt 0 timedKey refl) (read (c .before .before .before .before .before)) (λ e. omega (arith, e, c .before .before .before .if1 .taken))))))
 
 both-requires : tie.Need-both-requires
 both-requires c κs = search needs
@@ -83,16 +83,16 @@ enum-told-2 c = search needs
 returns-3 : tie.Need-returns-3
 returns-3 c =
     key-found (keyed-at (c .before .before .before .before .before .before .before .before .before .before .before))
-    (either-second heldForm (either grownForm timedForm) (key-absent (decimalForm most32 lf) (key-other _ _ _ _ (read (c .before .before .before .before .before .before .before)) heldKey _ (spelt 0 heldKey refl) (c .before .before .before .before .before .if1 .left)))
-    (either-first grownForm timedForm (key-found (key-is _ _ _ _ (read (c .before .before .before .before .before .before .before)) grownKey _ (spelt 0 grownKey refl) (c .before .before .before .before .if2 .taken)) (rw (c .before .f .given .1) at (c .before .before .before .both .ensures)))
-    (key-absent (twoForm (E.Whole most32) E.Double) (key-other _ _ _ _ (read (c .before .before .before .before .before .before .before)) timedKey _ (spelt 0 timedKey refl) (λ e. omega (arith, e, c .before .before .before .before .if2 .taken))))))
+    (either-second heldForm (either grownForm timedForm) (key-absent (decimalForm most32 lf) (key-other (spelt 0 heldKey refl) (read (c .before .before .before .before .before .before .before)) (c .before .before .before .before .before .if1 .left)))
+    (either-first grownForm timedForm (key-found (key-is (spelt 0 grownKey refl) (read (c .before .before .before .before .before .before .before)) (c .before .before .before .before .if2 .taken)) (rw (c .before .f .given .1) at (c .before .before .before .both .ensures)))
+    (key-absent (twoForm (E.Whole most32) E.Double) (key-other (spelt 0 timedKey refl) (read (c .before .before .before .before .before .before .before)) (λ e. omega (arith, e, c .before .before .before .before .if2 .taken))))))
 
 returns-4 : tie.Need-returns-4
 returns-4 c =
     key-open (keyed-at (c .before .before .before .before .before .before .before .before .before .before))
-    (either-none heldForm (either grownForm timedForm) (key-absent (decimalForm most32 lf) (key-other _ _ _ _ (read (c .before .before .before .before .before .before)) heldKey _ (spelt 0 heldKey refl) (c .before .before .before .before .if1 .left)))
-    (either-none grownForm timedForm (key-open (key-is _ _ _ _ (read (c .before .before .before .before .before .before)) grownKey _ (spelt 0 grownKey refl) (c .before .before .before .if2 .taken)) (rw (c .enum-told2 .given .1) at (c .before .before .both .ensures)))
-    (key-absent (twoForm (E.Whole most32) E.Double) (key-other _ _ _ _ (read (c .before .before .before .before .before .before)) timedKey _ (spelt 0 timedKey refl) (λ e. omega (arith, e, c .before .before .before .if2 .taken))))))
+    (either-none heldForm (either grownForm timedForm) (key-absent (decimalForm most32 lf) (key-other (spelt 0 heldKey refl) (read (c .before .before .before .before .before .before)) (c .before .before .before .before .if1 .left)))
+    (either-none grownForm timedForm (key-open (key-is (spelt 0 grownKey refl) (read (c .before .before .before .before .before .before)) (c .before .before .before .if2 .taken)) (rw (c .enum-told2 .given .1) at (c .before .before .both .ensures)))
+    (key-absent (twoForm (E.Whole most32) E.Double) (key-other (spelt 0 timedKey refl) (read (c .before .before .before .before .before .before)) (λ e. omega (arith, e, c .before .before .before .if2 .taken))))))
 
 both-requires-2 : tie.Need-both-requires-2
 both-requires-2 c κs = search needs
@@ -109,16 +109,16 @@ enum-told-3 c = search needs
 returns-5 : tie.Need-returns-5
 returns-5 c =
     key-found (keyed-at (c .before .before .before .before .before .before .before .before .before .before .before .before))
-    (either-second heldForm (either grownForm timedForm) (key-absent (decimalForm most32 lf) (key-other _ _ _ _ (read (c .before .before .before .before .before .before .before .before)) heldKey _ (spelt 0 heldKey refl) (c .before .before .before .before .before .before .if1 .left)))
-    (either-second grownForm timedForm (key-absent (twoForm (E.Whole most32) (E.Whole most32)) (key-other _ _ _ _ (read (c .before .before .before .before .before .before .before .before)) grownKey _ (spelt 0 grownKey refl) (c .before .before .before .before .before .if2 .left)))
-    (key-found (key-is _ _ _ _ (read (c .before .before .before .before .before .before .before .before)) timedKey _ (spelt 0 timedKey refl) (c .before .before .before .before .if3 .taken)) (rw (c .before .m .given .1) at (c .before .before .before .both2 .ensures)))))
+    (either-second heldForm (either grownForm timedForm) (key-absent (decimalForm most32 lf) (key-other (spelt 0 heldKey refl) (read (c .before .before .before .before .before .before .before .before)) (c .before .before .before .before .before .before .if1 .left)))
+    (either-second grownForm timedForm (key-absent (twoForm (E.Whole most32) (E.Whole most32)) (key-other (spelt 0 grownKey refl) (read (c .before .before .before .before .before .before .before .before)) (c .before .before .before .before .before .if2 .left)))
+    (key-found (key-is (spelt 0 timedKey refl) (read (c .before .before .before .before .before .before .before .before)) (c .before .before .before .before .if3 .taken)) (rw (c .before .m .given .1) at (c .before .before .before .both2 .ensures)))))
 
 returns-6 : tie.Need-returns-6
 returns-6 c =
     key-open (keyed-at (c .before .before .before .before .before .before .before .before .before .before .before))
-    (either-none heldForm (either grownForm timedForm) (key-absent (decimalForm most32 lf) (key-other _ _ _ _ (read (c .before .before .before .before .before .before .before)) heldKey _ (spelt 0 heldKey refl) (c .before .before .before .before .before .if1 .left)))
-    (either-none grownForm timedForm (key-absent (twoForm (E.Whole most32) (E.Whole most32)) (key-other _ _ _ _ (read (c .before .before .before .before .before .before .before)) grownKey _ (spelt 0 grownKey refl) (c .before .before .before .before .if2 .left)))
-    (key-open (key-is _ _ _ _ (read (c .before .before .before .before .before .before .before)) timedKey _ (spelt 0 timedKey refl) (c .before .before .before .if3 .taken)) (rw (c .enum-told3 .given .1) at (c .before .before .both2 .ensures)))))
+    (either-none heldForm (either grownForm timedForm) (key-absent (decimalForm most32 lf) (key-other (spelt 0 heldKey refl) (read (c .before .before .before .before .before .before .before)) (c .before .before .before .before .before .if1 .left)))
+    (either-none grownForm timedForm (key-absent (twoForm (E.Whole most32) (E.Whole most32)) (key-other (spelt 0 grownKey refl) (read (c .before .before .before .before .before .before .before)) (c .before .before .before .before .if2 .left)))
+    (key-open (key-is (spelt 0 timedKey refl) (read (c .before .before .before .before .before .before .before)) (c .before .before .before .if3 .taken)) (rw (c .enum-told3 .given .1) at (c .before .before .both2 .ensures)))))
 
 enum-told-4 : tie.Need-enum-told-4
 enum-told-4 c = search needs
@@ -129,16 +129,16 @@ enum-told-5 c = search needs
 returns-7 : tie.Need-returns-7
 returns-7 c =
     key-open (keyed-at (c .before .before .before .before .before .before .before .before))
-    (either-none heldForm (either grownForm timedForm) (key-absent (decimalForm most32 lf) (key-other _ _ _ _ (read (c .before .before .before .before)) heldKey _ (spelt 0 heldKey refl) (c .before .before .if1 .left)))
-    (either-none grownForm timedForm (key-absent (twoForm (E.Whole most32) (E.Whole most32)) (key-other _ _ _ _ (read (c .before .before .before .before)) grownKey _ (spelt 0 grownKey refl) (c .before .if2 .left)))
-    (key-absent (twoForm (E.Whole most32) E.Double) (key-other _ _ _ _ (read (c .before .before .before .before)) timedKey _ (spelt 0 timedKey refl) (c .if3 .left)))))
+    (either-none heldForm (either grownForm timedForm) (key-absent (decimalForm most32 lf) (key-other (spelt 0 heldKey refl) (read (c .before .before .before .before)) (c .before .before .if1 .left)))
+    (either-none grownForm timedForm (key-absent (twoForm (E.Whole most32) (E.Whole most32)) (key-other (spelt 0 grownKey refl) (read (c .before .before .before .before)) (c .before .if2 .left)))
+    (key-absent (twoForm (E.Whole most32) E.Double) (key-other (spelt 0 timedKey refl) (read (c .before .before .before .before)) (c .if3 .left)))))
 
 returns-8 : tie.Need-returns-8
 returns-8 c =
     let absent = rw (c .enum-told4 .given .1) at (c .before .before .word .ensures) in
     key-open (keyed-at (c .before .before .before .before))
-    (either-none heldForm (either grownForm timedForm) (key-absent (decimalForm most32 lf) (key-none _ _ absent heldKey _ (omega arith) (spelt 0 heldKey refl)))
-    (either-none grownForm timedForm (key-absent (twoForm (E.Whole most32) (E.Whole most32)) (key-none _ _ absent grownKey _ (omega arith) (spelt 0 grownKey refl))) (key-absent (twoForm (E.Whole most32) E.Double) (key-none _ _ absent timedKey _ (omega arith) (spelt 0 timedKey refl)))))
+    (either-none heldForm (either grownForm timedForm) (key-absent (decimalForm most32 lf) (key-none (spelt 0 heldKey refl) absent (omega arith)))
+    (either-none grownForm timedForm (key-absent (twoForm (E.Whole most32) (E.Whole most32)) (key-none (spelt 0 grownKey refl) absent (omega arith))) (key-absent (twoForm (E.Whole most32) E.Double) (key-none (spelt 0 timedKey refl) absent (omega arith)))))
 
 returns-9 : tie.Need-returns-9
 returns-9 c = key-absent (either heldForm (either grownForm timedForm)) ((rw (c .enum-told5 .given .1) at (c .before .before .key .ensures)) policyKey (spelt 0 policyKey refl))

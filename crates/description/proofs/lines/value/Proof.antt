@@ -26,7 +26,7 @@ enum-told c = search needs
 returns : tie.Need-returns
 returns c w r =
     let a = c .before .before .before .before .before .before .args in
-    key-then (kindForm (a .kind) (a .end)) (key-is _ _ _ _ (rw (c .before .before .next .given .1) at (c .before .before .before .before .key .ensures)) w _ r refl) (numbered (c .ended .result)) (c .ended .ensures)
+    key-then (kindForm (a .kind) (a .end)) (key-is r (rw (c .before .before .next .given .1) at (c .before .before .before .before .key .ensures)) refl) (numbered (c .ended .result)) (c .ended .ensures)
 
 returns-2 : tie.Need-returns-2
 returns-2 c w r = let a = c .before .before .before .before .args in key-absent (kindForm (a .kind) (a .end)) ((rw (c .enum-told .given .1) at (c .before .before .key .ensures)) w r)

@@ -32,12 +32,12 @@ enum-told : tie.Need-enum-told
 enum-told c = search needs
 
 returns-2 : tie.Need-returns-2
-returns-2 c w r = key-other _ _ _ _ (read (c .before .before)) w _ r (c .if1 .left)
+returns-2 c w r = key-other r (read (c .before .before)) (c .if1 .left)
 
 returns-3 : tie.Need-returns-3
 returns-3 c w r =
     let start = c .before .before .before .before in
-    key-none _ _ (rw (c .enum-told .given .1) at (c .before .before .word .ensures)) w _ (start .fits .key .fits) r
+    key-none r (rw (c .enum-told .given .1) at (c .before .before .word .ensures)) (start .fits .key .fits)
 
 in-place : InPlace code.function
 in-place = refl
