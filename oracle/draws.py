@@ -40,12 +40,17 @@ def from_seed(seed):
     return tuple(words)
 
 
+def from_words(*words):
+    """Four zero words are replaced by those of seed 0 (document 02, K5)."""
+    return words if any(words) else from_seed(0)
+
+
 def child(words):
     made = []
     for _ in range(4):
         output, words = xoshiro(words)
         made.append(output)
-    return tuple(made), words
+    return from_words(*made), words
 
 
 def sample(output):
@@ -84,18 +89,27 @@ def main():
     print("child of seed 1, then its parent")
     made, parent = child(from_seed(1))
     show_all(made + parent)
+    print("given four zero words, then one word that is not zero")
+    for place in range(-1, 4):
+        show_all(from_words(*(int(place == i) for i in range(4))))
+    print("outputs from four zero words")
+    words = from_words(0, 0, 0, 0)
+    for _ in range(10):
+        output, words = xoshiro(words)
+        show(output)
     print("samples")
     show_all(sample(output) for output in (0, 4095, 4096, 41943041, WORD))
     smallest = 5e-324
     for title, kind, words in (
         ("uniform 3..4 from the words 1, 2, 3, 4", ("uniform", 3.0, 4.0), (1, 2, 3, 4)),
         ("uniform 0..2^-1074 from the words 0, 0, 0, 2^40: drawn again", ("uniform", 0.0, smallest), (0, 0, 0, 1 << 40)),
-        ("uniform 0..2^-1074 from four zero words: spent", ("uniform", 0.0, smallest), (0, 0, 0, 0)),
+        ("uniform 0..2^-1074 from the words 0, 0, 0, 1: spent", ("uniform", 0.0, smallest), (0, 0, 0, 1)),
+        ("uniform 0..2^-1074 from four zero words", ("uniform", 0.0, smallest), (0, 0, 0, 0)),
         ("always 2.5: no word drawn", ("always", 2.5), (1, 2, 3, 4)),
         ("always 0: spent, no word drawn", ("always", 0.0), (1, 2, 3, 4)),
     ):
         print(title)
-        answer, after = positive(kind, words)
+        answer, after = positive(kind, from_words(*words))
         show_all(answer)
         show_all(after)
     print("Time::SIM_START, MAX, MIN; 11,200 bits at 3 bit/s; 2^53 + 1 bits at 1 bit/s; 8 bits over 0.1 s")

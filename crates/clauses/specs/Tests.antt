@@ -11,6 +11,8 @@ use lib.Ieee.{le}
 use Rattle.quantities.specs.declared.time.Time.{Time}
 use Rattle.quantities.specs.declared.time.OptionTime.{OptionTime}
 use Rattle.quantities.specs.declared.time.OptionTime.the-variants.{None, Some}
+use Rattle.rand.specs.declared.generator.Rng.{Rng}
+use Rattle.rand.specs.Generator.{allZero}
 use Rattle.meters.specs.declared.meter.AverageFlowMeter.{AverageFlowMeter}
 use Rattle.meters.specs.Meter.{isOn, totalFit, sumFit}
 use Rattle.link.specs.declared.packet.Packet.{Packet}
@@ -125,6 +127,10 @@ agreeTest enabled state start = Bool·beq enabled (senderOn state) && Bool·beq 
 unfoldable pub sentCountTest : ℕ → ℕ → ℕ → ℕ → Bool
 sentCountTest sent records waiting onLine = leb sent 16777216 && leb (records + waiting + onLine) sent
 
+-- the words of a sender's generator, and of its toggler's
+unfoldable pub wordsTest : Rng → Rng → Bool
+wordsTest own toggling = not (allZero own) && not (allZero toggling)
+
 unfoldable pub senderTest : Policy → ℕ → Time → LossySender → Toggler → AverageFlowMeter → ℕ → ℕ → Bool
 senderTest policy bits clock s t m waiting onLine =
     stateTest policy clock (s .state)
@@ -132,6 +138,7 @@ senderTest policy bits clock s t m waiting onLine =
     && meterTest bits clock m
     && sentCountTest (s .«packets_sent») (m .records) waiting onLine
     && agreeTest (t .enabled) (s .state) (m .«current_start»)
+    && wordsTest (s .rng) (t .rng)
 
 -- the first n senders, where so many of sender i's packets wait and so many are on the line
 module _ (policy : Policy) (bits : ℕ) (clock : Time) (waiting onLine : ℕ → ℕ) where

@@ -4,12 +4,13 @@ ghost use Prim.Native.Nat.{_≤_};
 ghost use lib.ListN.{getD};
 ghost use Rattle.meters.specs.Meter.{isOn};
 ghost use Rattle.remy.specs.Fit.{isTimed, senderOn};
-ghost use Rattle.clauses.specs.Tests.{Few, timerTest, enabledTest, stateTest, startTest, meterTest, agreeTest, sentCountTest, senderTest, sendersTest};
+ghost use Rattle.clauses.specs.Tests.{Few, timerTest, enabledTest, stateTest, startTest, meterTest, agreeTest, sentCountTest, wordsTest, senderTest, sendersTest};
 use meters::AverageFlowMeter;
 use quantities::OptionTime;
 use quantities::Time;
 use quantities::TimeSpan;
 use quantities::float::in_range;
+use rand::Rng;
 use ranges::frame::past_fit;
 use ranges::frame::time_held;
 use ranges::window_fit;
@@ -157,6 +158,16 @@ fn sent_count_fit(sent: u32, records: u32, waiting: usize, on_line: usize) -> bo
     records as usize + waiting + on_line <= sent as usize
 }
 
+// Whether neither a sender's generator nor its toggler's has four zero words.
+fn words_fit(own: Rng, toggling: Rng) -> bool
+    ensures { λ r. ⌜ r ≡ wordsTest own toggling ⌝ }
+{
+    if own.all_zero() {
+        return false;
+    }
+    !toggling.all_zero()
+}
+
 // Whether a sender with its toggler and meter is fit, where so many of its packets wait and so many
 // are on the line.
 fn sender_fit(
@@ -187,7 +198,12 @@ fn sender_fit(
         return false;
     }
     let start = meter.current_start;
-    agree(toggler.enabled, state, start)
+    if !agree(toggler.enabled, state, start) {
+        return false;
+    }
+    let own = sender.rng;
+    let toggling = toggler.rng;
+    words_fit(own, toggling)
 }
 
 // Whether the first n senders, with their togglers and meters, are fit, where element i of the counts

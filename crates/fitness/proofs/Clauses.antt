@@ -9,6 +9,7 @@ use native.Mathlib.Omega.{arith}
 use lib.Dec.{leb, ltb, eqb}
 use Rattle.quantities.specs.declared.time.OptionTime.{OptionTime}
 use Rattle.quantities.specs.declared.time.OptionTime.the-variants.{None, Some}
+use Rattle.rand.specs.Generator.{allZero}
 use Rattle.meters.specs.Meter.{isOn, totalFit, sumFit}
 use Rattle.link.specs.declared.packet.Packet.{Packet}
 use Rattle.link.specs.declared.packet.Transit.{Transit}
@@ -23,7 +24,7 @@ use Rattle.remy.specs.Queue.{ownTime}
 use Rattle.remy.specs.Fit.{every, upTo, packetFit, held, heldIfAny, heldSender, heldQueued, sinceStart, startedFit, meterStartFit, countOf, ackFit, heldWindowFit, isTimed, timerFit, senderOn}
 use Rattle.remy.proofs.Facts.{both-l, both-r, both-i}
 use Rattle.ranges.specs.Frame.{pastTest}
-use Rattle.clauses.specs.Tests.{sentTest, packetTest, tally, timerTest, enabledTest, stateTest, startTest, meterTest, agreeTest, sentCountTest, senderTest, roleTime, queuedTest}
+use Rattle.clauses.specs.Tests.{sentTest, packetTest, tally, timerTest, enabledTest, stateTest, startTest, meterTest, agreeTest, sentCountTest, wordsTest, senderTest, roleTime, queuedTest}
 
 -- ---- conjunctions
 
@@ -171,19 +172,26 @@ pub record SenderClauses (s : Simulation) (i w o : ℕ) : Type 0 where
   pub records : leb (meterAt s i .records + w + o) (senderAt s i .«packets_sent») ≡ true
   pub toggler-on : Bool·beq (togglerAt s i .enabled) (senderOn (senderAt s i .state)) ≡ true
   pub meter-on : Bool·beq (senderOn (senderAt s i .state)) (isOn (meterAt s i .«current_start»)) ≡ true
+  pub words : not (allZero (senderAt s i .rng)) ≡ true
+  pub toggler-words : not (allZero (togglerAt s i .rng)) ≡ true
 
 module _ (s : Simulation) (i w o : ℕ) where
   pub sender-clauses : senderTest (s .network .policy) (s .network .bits) (s .head .clock) (senderAt s i) (togglerAt s i) (meterAt s i) w o ≡ true
       → SenderClauses s i w o
-  unfolding senderTest meterTest sentCountTest agreeTest
+  unfolding senderTest meterTest sentCountTest agreeTest wordsTest
   sender-clauses e =
       let x = senderAt s i in
       let t = togglerAt s i in
       let m = meterAt s i in
       let clock = s .head .clock in
-      let a =
-      and-5 (stateTest (s .network .policy) clock (x .state)) (held (t .«next_toggle»)) (meterTest (s .network .bits) clock m)
-      (sentCountTest (x .«packets_sent») (m .records) w o) (agreeTest (t .enabled) (x .state) (m .«current_start»)) e in
+      let A = stateTest (s .network .policy) clock (x .state) in
+      let B = held (t .«next_toggle») in
+      let C = meterTest (s .network .bits) clock m in
+      let D = sentCountTest (x .«packets_sent») (m .records) w o in
+      let E = agreeTest (t .enabled) (x .state) (m .«current_start») in
+      let g = and-2 (A && B && C && D && E) (wordsTest (x .rng) (t .rng)) e in
+      let a = and-5 A B C D E (g .0) in
+      let k = and-2 (not (allZero (x .rng))) (not (allZero (t .rng))) (g .1) in
       let b =
       and-4 (startTest clock (m .«current_start»)) (totalFit (m .«total_time»)) (sumFit (m .records) (m .«rtt_sum»))
       (eqb (m .total .0) (m .records * s .network .bits)) (a .2) in
@@ -202,11 +210,13 @@ module _ (s : Simulation) (i w o : ℕ) where
         records = d .1;
         toggler-on = f .0;
         meter-on = f .1;
+        words = k .0;
+        toggler-words = k .1;
       }
 
   pub clauses-sender : SenderClauses s i w o
       → senderTest (s .network .policy) (s .network .bits) (s .head .clock) (senderAt s i) (togglerAt s i) (meterAt s i) w o ≡ true
-  unfolding senderTest meterTest sentCountTest agreeTest
+  unfolding senderTest meterTest sentCountTest agreeTest wordsTest
   clauses-sender c =
       rw (
         clauses-state s (s .network .policy) (senderAt s i .state) (c .state),
@@ -218,8 +228,10 @@ module _ (s : Simulation) (i w o : ℕ) where
         c .few,
         c .records,
         c .toggler-on,
+        c .meter-on,
+        c .words,
       )
-      (c .meter-on)
+      (c .toggler-words)
 
 -- ---- the queue
 

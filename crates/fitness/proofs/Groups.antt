@@ -1,7 +1,7 @@
 -- The groups of tests together are `fit`; and what each result of a group says of it. Assumes nothing.
 use Prim.Native.Nat.{ℕ, _+_, _*_, _≤_, _<_}
 use mathlib.Core.Path.{_≡_, refl, sym, ap, ap₂, _∙_}
-use mathlib.Core.Bool.{Bool, true, false, _&&_, _||_}
+use mathlib.Core.Bool.{Bool, true, false, not, _&&_, _||_}
 use mathlib.Core.List.{List}
 use native.Mathlib.Omega.{arith}
 use lib.Dec.{leb, eqb}
@@ -10,6 +10,7 @@ use lib.Ieee.{le}
 use Rattle.quantities.specs.declared.time.OptionTime.{OptionTime}
 use Rattle.quantities.specs.declared.time.OptionTime.the-variants.{Some}
 use Rattle.quantities.specs.Doubles.{zeroF}
+use Rattle.rand.specs.Generator.{allZero}
 use Rattle.link.specs.declared.packet.Packet.{Packet}
 use Rattle.link.specs.declared.packet.Transit.{Transit}
 use Rattle.toggler.specs.Queue.{queuePlaces}
@@ -18,7 +19,7 @@ use Rattle.remy.specs.declared.simulation.Simulation.{Simulation}
 use Rattle.remy.specs.Network.{networkStop}
 use Rattle.remy.specs.State.{noPacket, roleOf, senderAt, togglerAt, meterAt, queuedAt, waitingItems, onLineItems, onLinePackets}
 use Rattle.remy.specs.Queue.{nextTimeOf}
-use Rattle.remy.specs.Fit.{every, upTo, networkFit, ringsFit, packetFit, packetsFit, bitsFit, clockFit, held, heldIfAny, heldSender, heldQueued, isNext, heldTimesFit, sinceStart, startedFit, meterStartFit, pastFit, totalsFit, sumsFit, countOf, recordsFit, rising, dueFit, ackFit, countsFit, windowsFit, timersFit, togglersAgree, metersAgree, meterBitsFit, sameTime, nextFit, queueFit, fit}
+use Rattle.remy.specs.Fit.{every, upTo, networkFit, ringsFit, packetFit, packetsFit, bitsFit, clockFit, held, heldIfAny, heldSender, heldQueued, isNext, heldTimesFit, sinceStart, startedFit, meterStartFit, pastFit, totalsFit, sumsFit, countOf, recordsFit, rising, dueFit, ackFit, countsFit, windowsFit, timersFit, togglersAgree, metersAgree, meterBitsFit, sameTime, nextFit, queueFit, wordsFit, fit}
 use Rattle.remy.proofs.Facts.{FitState, fit-state, both-l, both-r, both-i, upTo-at}
 use Rattle.remy.specs.declared.simulation.Next.the-variants as Next
 use Rattle.ranges.specs.Frame.{ringsTest, clockHeld, frameTest}
@@ -67,6 +68,7 @@ module _ (s : Simulation) where
     clock : clockFit s ≡ true
     clock-held : clockHeld (s .head) ≡ true
     earliest : held (s .line .«earliest_transmit») ≡ true
+    words : not (allZero (s .line .rng)) ≡ true
 
   from-frame : frame ≡ true → Frame
   unfolding frameTest networkFit clockFit
@@ -77,13 +79,13 @@ module _ (s : Simulation) where
       let d = le zeroF (s .head .clock .0 .0) in
       let f = clockHeld (s .head) in
       let g = held (s .line .«earliest_transmit») in
-      let x = and-3 (a && b && c && d) f g e in
+      let x = and-4 (a && b && c && d) f g (not (allZero (s .line .rng))) e in
       let y = and-4 a b c d (x .0) in
-      record { network = y .0; rings = sym rings-same ∙ y .1; bits = bits-same ∙ y .2; clock = y .3; clock-held = x .1; earliest = x .2 }
+      record { network = y .0; rings = sym rings-same ∙ y .1; bits = bits-same ∙ y .2; clock = y .3; clock-held = x .1; earliest = x .2; words = x .3 }
 
   to-frame : Frame → frame ≡ true
   unfolding frameTest networkFit clockFit
-  to-frame f = rw (f .network, rings-same ∙ f .rings, sym bits-same ∙ f .bits, f .clock, f .clock-held, f .earliest)
+  to-frame f = rw (f .network, rings-same ∙ f .rings, sym bits-same ∙ f .bits, f .clock, f .clock-held, f .earliest, f .words)
 
   -- ---- packets
 
@@ -296,6 +298,21 @@ module _ (s : Simulation) where
       (each (λ i. startedFit s (senderAt s i .state))) (each (λ i. meterStartFit s (meterAt s i .«current_start»))) e in
       record { waiting = x .0; on-line = x .1; started = x .2; starts = x .3 }
 
+  record Words : Type 0 where
+    link : not (allZero (s .line .rng)) ≡ true
+    senders : each (λ i. not (allZero (senderAt s i .rng))) ≡ true
+    togglers : each (λ i. not (allZero (togglerAt s i .rng))) ≡ true
+
+  to-words : Words → wordsFit s ≡ true
+  unfolding wordsFit
+  to-words w = both-i _ _ (both-i _ _ (w .link) (w .senders)) (w .togglers)
+
+  from-words : wordsFit s ≡ true → Words
+  unfolding wordsFit
+  from-words e =
+      let x = and-3 (not (allZero (s .line .rng))) (each (λ i. not (allZero (senderAt s i .rng)))) (each (λ i. not (allZero (togglerAt s i .rng)))) e in
+      record { link = x .0; senders = x .1; togglers = x .2 }
+
   packets-parts : packetsFit s ≡ (every (packetFit s) (waitingItems s) && every (packetFit s) (onLinePackets s))
   unfolding packetsFit
   packets-parts = refl
@@ -329,9 +346,9 @@ module _ (s : Simulation) where
         upTo-i n _ (λ i h. c i h .bits),
       )
 
-  each-sender : FitState s → HeldTimes → Past → (i : ℕ) → i < s .network .senders → SenderClauses s i (waits-of i) (moves-of i)
+  each-sender : FitState s → HeldTimes → Past → Words → (i : ℕ) → i < s .network .senders → SenderClauses s i (waits-of i) (moves-of i)
   unfolding totalsFit sumsFit recordsFit countsFit windowsFit timersFit togglersAgree metersAgree meterBitsFit
-  each-sender f t p i h =
+  each-sender f t p w i h =
       let n = s .network .senders in
       let few = and-2 (leb (senderAt s i .«packets_sent») 16777216) (ackFit (senderAt s i .state)) (upTo-at n _ (f .counts) i h) in
       record {
@@ -352,6 +369,8 @@ module _ (s : Simulation) where
         records = counts-same i ∙ upTo-at n _ (f .records) i h;
         toggler-on = upTo-at n _ (f .togglers) i h;
         meter-on = upTo-at n _ (f .meters) i h;
+        words = upTo-at n _ (w .senders) i h;
+        toggler-words = upTo-at n _ (w .togglers) i h;
       }
 
   -- ---- all of them
@@ -400,6 +419,7 @@ module _ (s : Simulation) where
         meters = x .7;
         meter-bits = x .8;
         queue = queue-parts ∙ both-i _ _ (q .0) (places-own queuePlaces (q .1));
+        words = to-words (record { link = f .words; senders = upTo-i n _ (λ i h. c i h .words); togglers = upTo-i n _ (λ i h. c i h .toggler-words) });
       }
 
   fit-of : FitState s → fit s ≡ true
@@ -424,18 +444,20 @@ module _ (s : Simulation) where
         f .meters,
         f .meter-bits,
         f .queue,
+        f .words,
       )
 
   tests-of : FitState s → (frame && packets && senders && queue) ≡ true
   tests-of f =
       let t = from-held (f .held) in
       let p = from-past (f .past) in
+      let g = from-words (f .words) in
       let w = and-2 (every (packetFit s) (waitingItems s)) (every (packetFit s) (onLinePackets s)) (sym packets-parts ∙ f .packets) in
       let q = and-2 (nextFit s (s .head .next)) (upTo queuePlaces place-own) (sym queue-parts ∙ f .queue) in
       both-i (frame && packets && senders) queue
       (both-i (frame && packets) senders
       (both-i frame packets
-      (to-frame (record { network = f .network; rings = f .rings; bits = f .bits; clock = f .clock; clock-held = t .clock; earliest = t .earliest }))
+      (to-frame (record { network = f .network; rings = f .rings; bits = f .bits; clock = f .clock; clock-held = t .clock; earliest = t .earliest; words = g .link }))
       (to-packets
       (record {
         waiting = w .0;
@@ -447,7 +469,7 @@ module _ (s : Simulation) where
         on-line-past = p .on-line;
         due = f .due;
       })))
-      (to-senders (each-sender f t p)))
+      (to-senders (each-sender f t p g)))
       (to-queue (q .0) (to-places queuePlaces (t .queued) (q .1)))
 
   pub groups-fit : (frame && packets && senders && queue) ≡ fit s

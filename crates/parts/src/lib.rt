@@ -4,7 +4,7 @@
 // All functions here are helpers for the crate `builder`, and no entry points.
 ghost use mathlib.Core.Path.{_≡_};
 ghost use Prim.Native.Nat.{_≤_};
-ghost use Rattle.remy.specs.Build.{newLine, newSender, blankPacket, blankTransit, blankToggler, zeroWords, noParts, populate, emptyNetwork, emptyWords};
+ghost use Rattle.remy.specs.Build.{newLine, newSender, blankPacket, blankTransit, blankToggler, blankWords, noParts, populate, emptyNetwork, emptyWords};
 ghost use Rattle.parts.specs.Parts.{toldParts};
 use link::Limit;
 use link::Line;
@@ -59,11 +59,11 @@ pub fn new_sender(rng: Rng) -> LossySender
     }
 }
 
-// The generator of four zero words, for places where no part stands.
-pub fn zero_words() -> Rng
-    ensures { λ r. ⌜ r ≡ zeroWords ⌝ }
+// The generator of seed 0, for places where no part stands.
+pub fn blank_words() -> Rng
+    ensures { λ r. ⌜ r ≡ blankWords ⌝ }
 {
-    Rng::from_words(0, 0, 0, 0)
+    Rng::from_seed(0)
 }
 
 // What a place holds where no packet waits.
@@ -92,7 +92,7 @@ pub fn blank_toggler() -> Toggler
     ensures { λ r. ⌜ r ≡ blankToggler ⌝ }
 {
     let next_toggle = Time(TimeSpan(0.0));
-    let rng = zero_words();
+    let rng = blank_words();
     Toggler {
         enabled: false,
         next_toggle,
@@ -104,7 +104,7 @@ pub fn blank_toggler() -> Toggler
 pub fn no_parts() -> Made
     ensures { λ r. ⌜ toldParts r ≡ noParts ⌝ }
 {
-    let sender = new_sender(zero_words());
+    let sender = new_sender(blank_words());
     let toggler = blank_toggler();
     let senders = [sender; 16];
     let togglers = [toggler; 16];

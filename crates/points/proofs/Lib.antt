@@ -11,3 +11,4 @@ pub mod Refuted
 pub mod Rare
 pub mod Clock
 pub mod Joins
+pub mod Words

@@ -15,7 +15,7 @@ use Rattle.quantities.specs.Units.{amountOf}
 use Rattle.quantities.proofs.Order.{lt-irrefl}
 use Rattle.quantities.proofs.Uniform.{sample-fine}
 use Rattle.rand.specs.declared.generator.Rng.{Rng}
-use Rattle.rand.specs.Generator.{fromWords, outputOf, movedOn}
+use Rattle.rand.specs.Generator.{outputOf, movedOn, allZero, replaced, fromWords}
 use Rattle.rand.specs.Draws.{sampleOf, unitOf, uniformOf, drawOf, redraw}
 use Rattle.rand.proofs.Redraw.{again}
 use Rattle.meters.specs.Meter.{newMeter, startFit, meterFit, ready, switchedOf, enabledTime, readOf}
@@ -36,7 +36,7 @@ use Rattle.points.specs.Points.{Hold, points, outputs, halfway, smallest
 use Rattle.points.proofs.Claims.{_and_}
 
 drawn-zero : drawOf smallest halfway .value ≡ zeroF
-unfolding halfway fromWords outputOf sampleOf unitOf uniformOf drawOf div mul add sub neg sum ofInt round units odd size span climb
+unfolding halfway allZero replaced fromWords outputOf sampleOf unitOf uniformOf drawOf div mul add sub neg sum ofInt round units odd size span climb
 drawn-zero = refl
 
 not-positive : lt zeroF (drawOf smallest halfway .value) ≡ false
@@ -58,11 +58,11 @@ never-active = refl
 -- ---- the components
 
 sample-0 : unitOf (silent .rng) .value ≡ zeroF
-unfolding unitOf sampleOf outputOf fromWords div ofInt round units odd size span climb
+unfolding unitOf sampleOf outputOf allZero replaced fromWords div ofInt round units odd size span climb
 sample-0 = refl
 
 kept : tryDeliver silent one first zeroF .left ≡ Left.Out (first .packet)
-unfolding tryDeliver isDue unitOf sampleOf outputOf fromWords div ofInt round units odd size span climb lt eq
+unfolding tryDeliver isDue unitOf sampleOf outputOf allZero replaced fromWords div ofInt round units odd size span climb lt eq
 kept = refl
 
 -- an output is below 2 ^ 64, so a sample is below 1
@@ -100,7 +100,7 @@ unfolding returnedOf
 counted policy s e p on at = rw (on, at, not-before-itself (e .started .0 .0))
 
 pub points-hold : Hold points
-unfolding outputs halfway fromWords outputOf movedOn sampleOf div ofInt round units odd size span climb
+unfolding outputs halfway allZero replaced fromWords outputOf movedOn sampleOf div ofInt round units odd size span climb
 points-hold =
     refl and refl and refl
     and sample-0 and kept and lost

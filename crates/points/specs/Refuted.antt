@@ -29,7 +29,7 @@ use Rattle.remy.specs.declared.simulation.Simulation.{Simulation}
 use Rattle.remy.specs.declared.simulation.TickRecord.{TickRecord}
 use Rattle.remy.specs.Network.{between}
 use Rattle.remy.specs.State.{senderAt, meterAt, waitingItems, onLineItems, onLinePackets, senderBits, packetBits, totalBits, withLine, withWaiting, withOnLine, withMeter}
-use Rattle.remy.specs.Build.{newSender, zeroWords, blankPacket, blankTransit, blankToggler, buildOf}
+use Rattle.remy.specs.Build.{newSender, blankWords, blankPacket, blankTransit, blankToggler, buildOf}
 use Rattle.remy.specs.Tick.{tickOf}
 use Rattle.remy.specs.History.{Call, tick, ticks, after, history, Fresh, idOf, ids, times, admissions, droppedFull, lost, counted, old, ignored}
 use Rattle.remy.specs.History.{starts as startsIn, leaves as leavesIn}
@@ -184,7 +184,7 @@ tenth =
             state = State.Enabled (record { started = timeOf (power 0); «greatest_ack» = 1; cwnd = 6; timer = None });
             rng = fromWords 3406718355780431780 10892412867582108485 18204613561675945223 9655336933892813345;
           }
-          ∷ replicate 15 (newSender zeroWords);
+          ∷ replicate 15 (newSender blankWords);
       togglers =
           record {
             enabled = true;

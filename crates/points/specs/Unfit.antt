@@ -1,7 +1,7 @@
--- Document 01, the paragraph "Unfit" below "Stops": for each clause, and for each test inside it, states that it refuses and no other does, as one list of claims.
+-- Document 01, the paragraph "Unfit" below "Stops", and document 02's clauses: for each clause, and for each test inside it, states that it refuses and no other does, as one list of claims.
 -- Each state is one of the worked example's, or the empty simulation, with a field changed; beside it stand the nearest states that are fit.
 use mathlib.Core.Path.{_≡_}
-use mathlib.Core.Bool.{Bool, true, false, _&&_, _||_, cond}
+use mathlib.Core.Bool.{Bool, true, false, not, _&&_, _||_, cond}
 use mathlib.Core.List.{List, [], _∷_}
 use Prim.Native.Nat.{ℕ, _*_}
 use lib.IntN.{pos, negsuc}
@@ -13,7 +13,8 @@ use Rattle.quantities.specs.declared.time.OptionTime.the-variants.{None, Some}
 use Rattle.quantities.specs.Doubles.{zeroF, power, largest}
 use Rattle.quantities.specs.Units.{spanOf, timeOf, amountOf}
 use Rattle.rand.specs.declared.distribution.ContinuousDistribution.the-variants.{Always}
-use Rattle.rand.specs.Generator.{fromWords}
+use Rattle.rand.specs.declared.generator.Rng.{Rng}
+use Rattle.rand.specs.Generator.{allZero, fromWords}
 use Rattle.meters.specs.Meter.{newMeter}
 use Rattle.link.specs.declared.packet.Packet.{Packet}
 use Rattle.link.specs.declared.packet.Transit.{Transit}
@@ -28,9 +29,10 @@ use Rattle.remy.specs.declared.network.RemyNetwork.{RemyNetwork}
 use Rattle.remy.specs.declared.simulation.Next.{Next}
 use Rattle.remy.specs.declared.simulation.Next.the-variants as Next
 use Rattle.remy.specs.declared.simulation.Simulation.{Simulation}
-use Rattle.remy.specs.State.{noToggler, noMeter, senderAt, togglerAt, meterAt, queuedAt, waitingItems, onLineItems, onLinePackets, withHead, withLine, withWaiting, withOnLine, withSender, withToggler, withMeter, withQueued}
+use Rattle.remy.specs.State.{noSender, noToggler, noMeter, senderAt, togglerAt, meterAt, queuedAt, waitingItems, onLineItems, onLinePackets, withHead, withLine, withWaiting, withOnLine, withSender, withToggler, withMeter, withQueued}
 use Rattle.remy.specs.Queue.{nextTimeOf}
-use Rattle.remy.specs.Build.{newLine, newSender, zeroWords, blankPacket, blankTransit, blankToggler, emptySimulation}
+use Rattle.remy.specs.Build.{newLine, newSender, blankWords, blankPacket, blankTransit, blankToggler, emptySimulation}
+use Rattle.remy.specs.Tick.{unmoved, tickOf}
 use Rattle.remy.specs.Fit.{every, upTo, eachSender, networkFit, packetFit, bitsFit, clockFit, held, heldIfAny, isIdle, heldSender, heldQueued, isNext, sinceStart, startedFit, meterStartFit, totalsFit, sumsFit, recordsFit, dueFit, countsFit, windowsFit, timersFit, togglersAgree, metersAgree, meterBitsFit, sameTime, nextFit, fit}
 use Rattle.points.specs.Ranges.{double, minusZero, belowZero, tiny, good, withDelay, withRate, withLoss, withLimit, withBits, withSenderCount, withOn, withPolicy}
 use Rattle.points.specs.Worked.{worked, workedAfter}
@@ -75,7 +77,7 @@ busy =
             state = State.Enabled (record { started = timeOf (power 0); «greatest_ack» = 1; cwnd = 3; timer = None });
             rng = fromWords 3406718355780431780 10892412867582108485 18204613561675945223 9655336933892813345;
           }
-          ∷ replicate 15 (newSender zeroWords);
+          ∷ replicate 15 (newSender blankWords);
       togglers =
           record {
             enabled = true;
@@ -100,7 +102,7 @@ quiet =
       «on_line» = replicate 512 blankTransit;
       senders =
           newSender (fromWords 3406718355780431780 10892412867582108485 18204613561675945223 9655336933892813345)
-          ∷ replicate 15 (newSender zeroWords);
+          ∷ replicate 15 (newSender blankWords);
       togglers =
           record {
             enabled = false;
@@ -199,6 +201,28 @@ switchedOff s = withSenderState s (senderAt s 0 .«packets_sent») State.Waiting
 abbrev pub withToggle : Simulation → Bool → Float → Simulation
 withToggle s on x = withToggler s 0 (record { enabled = on; «next_toggle» = timeOf x; rng = togglerAt s 0 .rng })
 
+-- the generator of the link, of sender i and of toggler i
+abbrev pub withLinkWords : Simulation → Rng → Simulation
+withLinkWords s g =
+    withLine s
+    (record {
+      «earliest_transmit» = s .line .«earliest_transmit»;
+      «buffer_contains» = s .line .«buffer_contains»;
+      waiting = s .line .waiting;
+      «on_line» = s .line .«on_line»;
+      rng = g;
+    })
+
+abbrev pub withSenderWords : Simulation → ℕ → Rng → Simulation
+withSenderWords s i g = withSender s i (record { «packets_sent» = senderAt s i .«packets_sent»; state = senderAt s i .state; rng = g })
+
+abbrev pub withTogglerWords : Simulation → ℕ → Rng → Simulation
+withTogglerWords s i g = withToggler s i (record { enabled = togglerAt s i .enabled; «next_toggle» = togglerAt s i .«next_toggle»; rng = g })
+
+-- these words as they are
+abbrev pub wordsOnly : ℕ → ℕ → ℕ → ℕ → Rng
+wordsOnly a b c d = record { s0 = a; s1 = b; s2 = c; s3 = d }
+
 -- meter 0: total enabled time, start, bits, records, RTT sum
 abbrev pub meterWith : Simulation → Float → OptionTime → ℕ → ℕ → Float → Simulation
 meterWith s total start bits records sum =
@@ -253,7 +277,7 @@ toggling x = queuedFor (withToggle busy true x) 2 x
 
 -- two senders, of which the second is off until 101
 abbrev pub twoSenders : Simulation
-twoSenders = queuedFor (withToggler (withNetwork busy (withSenderCount 2)) 1 (record { enabled = false; «next_toggle» = timeOf toggleTime; rng = zeroWords })) 4 toggleTime
+twoSenders = queuedFor (withToggler (withNetwork busy (withSenderCount 2)) 1 (record { enabled = false; «next_toggle» = timeOf toggleTime; rng = blankWords })) 4 toggleTime
 
 -- the link queued, so that another part may be next
 abbrev pub linkQueued : Simulation
@@ -270,6 +294,7 @@ pub data Test : Type 0 where
   pastWaiting pastOnLine pastStarted pastMeter : Test
   total rttSum records due counts window timer toggler meter meterBits : Test
   next others : Test
+  linkWords senderWords togglerWords : Test
 
 -- a test, and whether a state passes it
 pub record Row : Type 0 where
@@ -315,6 +340,9 @@ rows s =
     ∷ row meterBits (meterBitsFit s)
     ∷ row next (nextFit s (s .head .next))
     ∷ row others (upTo queuePlaces (λ k. isNext (s .head .next) k || sameTime (queuedAt s k) (nextTimeOf s k)))
+    ∷ row linkWords (not (allZero (s .line .rng)))
+    ∷ row senderWords (eachSender s (λ i. not (allZero (senderAt s i .rng))))
+    ∷ row togglerWords (eachSender s (λ i. not (allZero (togglerAt s i .rng))))
     ∷ []
 
 -- all of them; they are what `fit` tests
@@ -339,6 +367,7 @@ Fit s = fit s ≡ true
 abbrev pub unfit : List (Type 0)
 unfit =
     ((s : Simulation) → fit s ≡ allPass true (rows s))
+    ∷ ((s : Simulation) → fit s ≡ false → tickOf s ≡ unmoved s 9)
     ∷ (workedAfter 7 ≡ busy)
     ∷ (workedAfter 0 ≡ quiet)
     ∷ (double 0x4280000000000000 ≡ power 41)
@@ -505,12 +534,29 @@ unfit =
     -- or not queued with one.
     ∷ Unfit (others ∷ []) (withQueued busy 2 None)
     ∷ Unfit (others ∷ []) (withNext quiet Next.None)
+    -- Document 02, K5: four zero words, in the generator of the link, one word of four being enough,
+    ∷ Fit (withLinkWords busy (wordsOnly 1 0 0 0))
+    ∷ Fit (withLinkWords busy (wordsOnly 0 1 0 0))
+    ∷ Fit (withLinkWords busy (wordsOnly 0 0 1 0))
+    ∷ Fit (withLinkWords busy (wordsOnly 0 0 0 1))
+    ∷ Unfit (linkWords ∷ []) (withLinkWords busy (wordsOnly 0 0 0 0))
+    ∷ Unfit (linkWords ∷ []) (withLinkWords empty (wordsOnly 0 0 0 0))
+    -- of a sender, on or off, though nothing draws from it,
+    ∷ Fit (withSenderWords busy 0 (wordsOnly 0 0 0 1))
+    ∷ Unfit (senderWords ∷ []) (withSenderWords busy 0 (wordsOnly 0 0 0 0))
+    ∷ Unfit (senderWords ∷ []) (withSenderWords quiet 0 (wordsOnly 0 0 0 0))
+    -- or of a toggler.
+    ∷ Fit (withTogglerWords busy 0 (wordsOnly 0 0 0 1))
+    ∷ Unfit (togglerWords ∷ []) (withTogglerWords busy 0 (wordsOnly 0 0 0 0))
     -- Every sender of the network is read, and none above them.
     ∷ Fit twoSenders
     ∷ Unfit (total ∷ rttSum ∷ []) (withMeter twoSenders 1 noMeter)
-    ∷ Unfit (heldToggle ∷ others ∷ []) (withToggler twoSenders 1 noToggler)
+    ∷ Unfit (heldToggle ∷ others ∷ togglerWords ∷ []) (withToggler twoSenders 1 noToggler)
+    ∷ Unfit (senderWords ∷ []) (withSenderWords twoSenders 1 (wordsOnly 0 0 0 0))
+    ∷ Unfit (togglerWords ∷ []) (withTogglerWords twoSenders 1 (wordsOnly 0 0 0 0))
     ∷ Fit (withMeter busy 1 noMeter)
     ∷ Fit (withToggler busy 1 noToggler)
+    ∷ Fit (withSender busy 1 noSender)
     -- In no clause: waiting bits above the limit, a packet held twice, a greatest ack above sent.
     ∷ Fit (waiters 0 2)
     ∷ Fit (withFirst busy (packetOf 0 2 (power 1)))

@@ -2,3 +2,4 @@
 pub mod SplitMix64
 pub mod Generator
 pub mod Draws
+pub mod ZeroWords

@@ -1,6 +1,6 @@
 ghost use mathlib.Core.Path.{_≡_};
 ghost use Prim.Native.Nat.{_<_};
-ghost use Rattle.rand.specs.Generator.{wordsOf, rotlOf, nextOf, fromWords, fromSeed, childOf};
+ghost use Rattle.rand.specs.Generator.{wordsOf, rotlOf, nextOf, allZero, replaced, fromWords, fromSeed, childOf};
 use crate::splitmix64::SplitMix64;
 
 // A xoshiro256++ generator: its four words.
@@ -24,11 +24,12 @@ pub struct Child {
 }
 
 impl Rng {
-    // The one place where a generator is made of words. Any four words are taken.
+    // The generator that is given these words. Four zero words are replaced.
     pub fn from_words(s0: u64, s1: u64, s2: u64, s3: u64) -> Rng
         ensures { λ r. ⌜ r ≡ fromWords s0 s1 s2 s3 ⌝ }
     {
-        Rng { s0, s1, s2, s3 }
+        let given = Rng { s0, s1, s2, s3 };
+        given.replaced()
     }
 
     // The four words, in order.
@@ -38,7 +39,34 @@ impl Rng {
         [self.s0, self.s1, self.s2, self.s3]
     }
 
-    // The words are the first four SplitMix64 outputs of the seed.
+    // Whether all four words are zero.
+    pub fn all_zero(self) -> bool
+        ensures { λ r. ⌜ r ≡ allZero self ⌝ }
+    {
+        if self.s0 != 0 {
+            return false;
+        }
+        if self.s1 != 0 {
+            return false;
+        }
+        if self.s2 != 0 {
+            return false;
+        }
+        self.s3 == 0
+    }
+
+    // Itself; in place of four zero words those of seed 0, since from zeros xoshiro256++ gives
+    // nothing but zeros.
+    fn replaced(self) -> Rng
+        ensures { λ r. ⌜ r ≡ replaced self ⌝ }
+    {
+        if self.all_zero() {
+            return Rng::from_seed(0);
+        }
+        self
+    }
+
+    // The words are the first four SplitMix64 outputs of the seed, which are never all zero.
     pub fn from_seed(seed: u64) -> Rng
         ensures { λ r. ⌜ r ≡ fromSeed seed ⌝ }
     {
@@ -46,10 +74,16 @@ impl Rng {
         let b = a.state.next();
         let c = b.state.next();
         let d = c.state.next();
-        Rng::from_words(a.output, b.output, c.output, d.output)
+        Rng {
+            s0: a.output,
+            s1: b.output,
+            s2: c.output,
+            s3: d.output,
+        }
     }
 
-    // The child's words are the next four outputs of this generator, which moves on.
+    // The child's words are the next four outputs of this generator, which moves on. Four zero
+    // words are replaced.
     pub fn create_child(self) -> Child
         ensures { λ r. ⌜ r ≡ childOf self ⌝ }
     {
@@ -58,7 +92,13 @@ impl Rng {
         let c = b.rng.next();
         let d = c.rng.next();
         let parent = d.rng;
-        let child = Rng::from_words(a.value, b.value, c.value, d.value);
+        let drawn = Rng {
+            s0: a.value,
+            s1: b.value,
+            s2: c.value,
+            s3: d.value,
+        };
+        let child = drawn.replaced();
         Child { child, parent }
     }
 

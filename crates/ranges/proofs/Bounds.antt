@@ -8,6 +8,7 @@ use lib.Dec.{leb, ltb, eqb}
 use lib.Ieee.{le}
 use borrow.Author.Tests.{leb-true, ltb-true, eqb-true, not-false}
 use Rattle.quantities.specs.Doubles.{zeroF}
+use Rattle.rand.specs.Generator.{allZero}
 use Rattle.link.specs.declared.ring.Ring.{Ring}
 use Rattle.link.specs.declared.link.Line.{Line}
 use Rattle.link.specs.Ring.{places}
@@ -59,7 +60,8 @@ frame-framed n h l e =
     let d = le zeroF (h .clock .0 .0) in
     let f = clockHeld h in
     let g = held (l .«earliest_transmit») in
-    let ab = both-l (a && b) c (both-l (a && b && c) d (both-l (a && b && c && d) f (both-l (a && b && c && d && f) g e))) in
+    let to-start = both-l (a && b && c && d && f && g) (not (allZero (l .rng))) e in
+    let ab = both-l (a && b) c (both-l (a && b && c) d (both-l (a && b && c && d) f (both-l (a && b && c && d && f) g to-start))) in
     framed n l (eqb-true (networkStop n) 0 (both-l a b ab)) (both-r a b ab)
 
 -- from the result of the test

@@ -1,10 +1,11 @@
 -- The clauses of `fit` (the crate `remy`, specs/Fit.antt) that read the network, the head and the line, and not the packets. Definitions only.
 use Prim.Native.Nat.{_*_}
-use mathlib.Core.Bool.{Bool, _&&_, _||_}
+use mathlib.Core.Bool.{Bool, not, _&&_, _||_}
 use lib.Dec.{leb, ltb, eqb}
 use lib.Ieee.{le, eq}
 use Rattle.quantities.specs.declared.time.Time.{Time}
 use Rattle.quantities.specs.Doubles.{zeroF, largest, inRange}
+use Rattle.rand.specs.Generator.{allZero}
 use Rattle.link.specs.declared.link.Line.{Line}
 use Rattle.link.specs.Ring.{places}
 use Rattle.remy.specs.declared.network.RemyNetwork.{RemyNetwork}
@@ -24,7 +25,7 @@ ringsTest l =
 unfoldable pub clockHeld : Head → Bool
 clockHeld h = held (h .clock) || isIdle (h .next) && eq (h .clock .0 .0) largest
 
--- the network, the rings, the waiting bits, the clock, the earliest start
+-- the network, the rings, the waiting bits, the clock, the earliest start, the words of the generator
 unfoldable pub frameTest : RemyNetwork → Head → Line → Bool
 frameTest n h l =
     eqb (networkStop n) 0
@@ -33,6 +34,7 @@ frameTest n h l =
     && le zeroF (h .clock .0 .0)
     && clockHeld h
     && held (l .«earliest_transmit»)
+    && not (allZero (l .rng))
 
 -- a time that is held, and not after the clock
 unfoldable pub pastTest : Time → Time → Bool

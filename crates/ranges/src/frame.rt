@@ -30,7 +30,11 @@ pub fn frame_fit(network: RemyNetwork, head: Head, line: Line) -> bool
             return false;
         }
         let earliest = line.earliest_transmit;
-        return time_held(earliest);
+        if !time_held(earliest) {
+            return false;
+        }
+        let rng = line.rng;
+        return !rng.all_zero();
     }
     false
 }

@@ -12,7 +12,7 @@ use lib.Ieee.Bits.{is-true}
 use Rattle.quantities.specs.Doubles.{inRange}
 use Rattle.remy.specs.declared.simulation.Simulation.{Simulation}
 use Rattle.remy.specs.Network.{between}
-use Rattle.remy.specs.Fit.{every, upTo, networkFit, ringsFit, packetsFit, bitsFit, clockFit, heldTimesFit, pastFit, totalsFit, sumsFit, recordsFit, dueFit, countsFit, windowsFit, timersFit, togglersAgree, metersAgree, meterBitsFit, queueFit, fit}
+use Rattle.remy.specs.Fit.{every, upTo, networkFit, ringsFit, packetsFit, bitsFit, clockFit, heldTimesFit, pastFit, totalsFit, sumsFit, recordsFit, dueFit, countsFit, windowsFit, timersFit, togglersAgree, metersAgree, meterBitsFit, queueFit, wordsFit, fit}
 
 -- ---- conjunctions
 
@@ -83,6 +83,7 @@ pub record FitState (s : Simulation) : Type 0 where
   pub meters : metersAgree s ≡ true
   pub meter-bits : meterBitsFit s ≡ true
   pub queue : queueFit s ≡ true
+  pub words : wordsFit s ≡ true
 
 pub fit-state : (s : Simulation) → fit s ≡ true → FitState s
 unfolding fit
@@ -103,7 +104,9 @@ fit-state s all =
     let to-togglers = to-timers && togglersAgree s in
     let to-meters = to-togglers && metersAgree s in
     let to-meter-bits = to-meters && meterBitsFit s in
-    let by-meter-bits = both-l to-meter-bits (queueFit s) all in
+    let to-queue = to-meter-bits && queueFit s in
+    let by-queue = both-l to-queue (wordsFit s) all in
+    let by-meter-bits = both-l to-meter-bits (queueFit s) by-queue in
     let by-meters = both-l to-meters (meterBitsFit s) by-meter-bits in
     let by-togglers = both-l to-togglers (metersAgree s) by-meters in
     let by-timers = both-l to-timers (togglersAgree s) by-togglers in
@@ -137,5 +140,6 @@ fit-state s all =
       togglers = both-r to-timers (togglersAgree s) by-togglers;
       meters = both-r to-togglers (metersAgree s) by-meters;
       meter-bits = both-r to-meters (meterBitsFit s) by-meter-bits;
-      queue = both-r to-meter-bits (queueFit s) all;
+      queue = both-r to-meter-bits (queueFit s) by-queue;
+      words = both-r to-queue (wordsFit s) all;
     }

@@ -22,8 +22,9 @@ use Rattle.quantities.specs.Doubles.{zeroF, power, largest, least}
 use Rattle.rand.specs.declared.generator.Rng.{Rng}
 use Rattle.rand.specs.declared.distribution.ContinuousDistribution.{ContinuousDistribution}
 use Rattle.rand.specs.declared.distribution.ContinuousDistribution.the-variants.{Always, Uniform}
-use Rattle.rand.specs.Generator.{outputOf, fromSeed, childOf}
+use Rattle.rand.specs.Generator.{outputOf, fromSeed, allZero, childOf}
 use Rattle.rand.specs.Draws.{sampleOf, unitOf, uniformOf, drawOf, PositiveDraw, redraw, positiveOf}
+use Rattle.rand.proofs.ZeroWords.{zero-words}
 use Rattle.meters.specs.Meter.{newMeter, isOn}
 use Rattle.toggler.proofs.Least.{picked-there, picked-inside, picked-le, picked-nothing}
 use Rattle.sender.specs.declared.lossy.LossySender.{LossySender}
@@ -43,7 +44,7 @@ use Rattle.remy.specs.Network.{timesFit, networkStop}
 use Rattle.remy.specs.State.{Role, link, sender, toggler, nobody, roleOf, noSender, noToggler, noMeter, senderAt, togglerAt, meterAt, queuedAt, withHead, withQueue}
 use Rattle.remy.specs.Queue.{ownTime, nextTimeOf, partOf, headOf, removed, picked}
 use Rattle.remy.specs.Build.{newLine, newSender, Parts, noParts, populate, unqueued, ownTimes, queuedAll, notBuilt, buildFrom, buildOf}
-use Rattle.remy.specs.Fit.{upTo, eachSender, held, heldIfAny, isIdle, heldSender, heldQueued, isNext, startedFit, meterStartFit, sameTime, nextFit, networkFit, ringsFit, packetsFit, bitsFit, clockFit, heldTimesFit, pastFit, totalsFit, sumsFit, recordsFit, dueFit, countsFit, windowsFit, timersFit, togglersAgree, metersAgree, meterBitsFit, queueFit, fit}
+use Rattle.remy.specs.Fit.{upTo, eachSender, held, heldIfAny, isIdle, heldSender, heldQueued, isNext, startedFit, meterStartFit, sameTime, nextFit, networkFit, ringsFit, packetsFit, bitsFit, clockFit, heldTimesFit, pastFit, totalsFit, sumsFit, recordsFit, dueFit, countsFit, windowsFit, timersFit, togglersAgree, metersAgree, meterBitsFit, queueFit, wordsFit, fit}
 use Rattle.remy.proofs.Facts.{both-l, both-r, holds}
 use Rattle.remy.proofs.Networks.{fit-network, few-senders}
 use Rattle.remy.proofs.Lists.{All}
@@ -66,9 +67,9 @@ upTo-intro (suc n) f h = rw (upTo-intro n f (λ i k. h i (omega arith)), h n (om
 -- a state is fit where every clause holds
 pub fit-intro : (s : Simulation) → networkFit s ≡ true → ringsFit s ≡ true → packetsFit s ≡ true → bitsFit s ≡ true → clockFit s ≡ true
     → heldTimesFit s ≡ true → pastFit s ≡ true → totalsFit s ≡ true → sumsFit s ≡ true → recordsFit s ≡ true → dueFit s ≡ true → countsFit s ≡ true
-    → windowsFit s ≡ true → timersFit s ≡ true → togglersAgree s ≡ true → metersAgree s ≡ true → meterBitsFit s ≡ true → queueFit s ≡ true → fit s ≡ true
+    → windowsFit s ≡ true → timersFit s ≡ true → togglersAgree s ≡ true → metersAgree s ≡ true → meterBitsFit s ≡ true → queueFit s ≡ true → wordsFit s ≡ true → fit s ≡ true
 unfolding fit
-fit-intro s a b c d e f g h i j k l m n o p q r = rw (a, b, c, d, e, f, g, h, i, j, k, l, m, n, o, p, q, r)
+fit-intro s a b c d e f g h i j k l m n o p q r t = rw (a, b, c, d, e, f, g, h, i, j, k, l, m, n, o, p, q, r, t)
 
 -- what holds of the link, of each sender and each toggler below n, and of nobody, holds of every part's role
 pub role-elim : (P : Role → Type 0) (n k : ℕ) → P link → ((i : ℕ) → i < n → P (sender i)) → ((i : ℕ) → i < n → P (toggler i)) → P nobody
@@ -112,25 +113,27 @@ redraw-within (suc tries) d h g =
 -- ---- the parts as they are made
 
 -- a sender that is off and has sent nothing
-abbrev pub Off : LossySender → Type 0
-Off x = x ≡ newSender (x .rng)
+pub record Off (x : LossySender) : Type 0 where
+  pub off : x ≡ newSender (x .rng)
+  pub words : allZero (x .rng) ≡ false
 
 -- a toggler that is off, with a toggle in 0..2^20
 pub record Waits (t : Toggler) : Type 0 where
   pub off : t .enabled ≡ false
   pub soon : within (t .«next_toggle» .0 .0) (power 20)
+  pub words : allZero (t .rng) ≡ false
 
 -- the first toggle is 0 + a draw
 sum-within : (x : Float) → within x (power 20) → within (add binary64 zeroF x) (power 20)
 unfolding le add
 sum-within x w = add-within binary64 zeroF zeroF x (power 20) (power 20) (tt, tt) w tt tt tt tt .1
 
-new-toggler : (g : Rng) (d : ContinuousDistribution) → timesFit d ≡ true → Waits (newToggler g d .toggler)
+new-toggler : (g : Rng) (d : ContinuousDistribution) → allZero g ≡ false → timesFit d ≡ true → Waits (newToggler g d .toggler)
 unfolding newToggler
-new-toggler g d h =
+new-toggler g d w h =
     cond-elim (λ (x : Toggled). Waits (x .toggler)) (eqb (positiveOf d g .number) 0) _ _
-    (λ t. record { off = refl; soon = sum-within (positiveOf d g .value) (redraw-within 8 d h g) })
-    (λ t. record { off = refl; soon = zero-within })
+    (λ t. record { off = refl; soon = sum-within (positiveOf d g .value) (redraw-within 8 d h g); words = zero-words .redrawn d g w })
+    (λ t. record { off = refl; soon = zero-within; words = w })
 
 -- each of 16 elements has P
 abbrev pub Filled : {A : Type 0} → (A → Type 0) → List A → Type 0
@@ -163,7 +166,10 @@ pub record New (parts : Parts) : Type 0 where
 
 pub no-parts : New noParts
 no-parts =
-    record { senders = (refl, all-replicate Off 16 _ refl); togglers = (refl, all-replicate Waits 16 _ (record { off = refl; soon = zero-within })) }
+    record {
+      senders = (refl, all-replicate Off 16 _ (record { off = refl; words = zero-words .seed 0 }));
+      togglers = (refl, all-replicate Waits 16 _ (record { off = refl; soon = zero-within; words = zero-words .seed 0 }));
+    }
 
 -- Whether a draw was spent or not, every part is new.
 pub populate-new : (left i : ℕ) (root : Rng) (d : ContinuousDistribution) (parts : Parts) → timesFit d ≡ true → New parts → New (populate left i root d parts)
@@ -176,8 +182,8 @@ populate-new (suc left) i root d parts h w =
     let more : Parts = record { number = t .number; senders = set (parts .senders) i (newSender (c .child)); togglers = set (parts .togglers) i (t .toggler) } in
     let w' : New more =
     record {
-      senders = filled-set Off (parts .senders) i (newSender (c .child)) refl (w .senders);
-      togglers = filled-set Waits (parts .togglers) i (t .toggler) (new-toggler (e .child) d h) (w .togglers);
+      senders = filled-set Off (parts .senders) i (newSender (c .child)) (record { off = refl; words = zero-words .child root }) (w .senders);
+      togglers = filled-set Waits (parts .togglers) i (t .toggler) (new-toggler (e .child) d (zero-words .child (c .parent)) h) (w .togglers);
     } in
     cond-elim New (eqb (t .number) 0) (populate left (i + 1) (e .parent) d more) more (λ z. populate-new left (i + 1) (e .parent) d more h w') (λ z. w')
 
@@ -185,19 +191,21 @@ populate-new (suc left) i root d parts h w =
 
 record Blank (s : Simulation) : Type 0 where
   network : networkStop (s .network) ≡ 0
-  words : Rng
-  line : s .line ≡ newLine words
+  rng : Rng
+  line : s .line ≡ newLine rng
+  words : allZero rng ≡ false
   senders : (i : ℕ) → i < s .network .senders → Off (senderAt s i)
   togglers : (i : ℕ) → i < s .network .senders → Waits (togglerAt s i)
   meters : (i : ℕ) → i < s .network .senders → meterAt s i ≡ newMeter
 
-unqueued-blank : (n : RemyNetwork) (g : Rng) (parts : Parts) → networkStop n ≡ 0 → New parts → Blank (unqueued n g parts)
-unqueued-blank n g parts e w =
+unqueued-blank : (n : RemyNetwork) (g : Rng) (parts : Parts) → networkStop n ≡ 0 → allZero g ≡ false → New parts → Blank (unqueued n g parts)
+unqueued-blank n g parts e some w =
     let few : n .senders ≤ 16 = few-senders (fit-network n e) in
     record {
       network = e;
-      words = g;
+      rng = g;
       line = refl;
+      words = some;
       senders = λ i h. filled-at Off (parts .senders) i noSender (omega arith) (w .senders);
       togglers = λ i h. filled-at Waits (parts .togglers) i noToggler (omega arith) (w .togglers);
       meters = λ i h. getD-replicate 16 i newMeter noMeter (omega arith);
@@ -236,36 +244,43 @@ module _ (s : Simulation) (b : Blank s) where
 
   records-fit : recordsFit s ≡ true
   unfolding recordsFit
-  records-fit = upTo-intro _ _ (λ i h. rw (b .meters i h, b .senders i h, b .line))
+  records-fit = upTo-intro _ _ (λ i h. rw (b .meters i h, b .senders i h .off, b .line))
 
   counts-fit : countsFit s ≡ true
   unfolding countsFit
-  counts-fit = upTo-intro _ _ (λ i h. rw (b .senders i h))
+  counts-fit = upTo-intro _ _ (λ i h. rw (b .senders i h .off))
 
   windows-fit : windowsFit s ≡ true
   unfolding windowsFit
-  windows-fit = upTo-intro _ _ (λ i h. rw (b .senders i h))
+  windows-fit = upTo-intro _ _ (λ i h. rw (b .senders i h .off))
 
   timers-fit : timersFit s ≡ true
   unfolding timersFit
-  timers-fit = upTo-intro _ _ (λ i h. rw (b .senders i h))
+  timers-fit = upTo-intro _ _ (λ i h. rw (b .senders i h .off))
 
   togglers-agree : togglersAgree s ≡ true
   unfolding togglersAgree
-  togglers-agree = upTo-intro _ _ (λ i h. rw (b .togglers i h .off, b .senders i h))
+  togglers-agree = upTo-intro _ _ (λ i h. rw (b .togglers i h .off, b .senders i h .off))
 
   meters-agree : metersAgree s ≡ true
   unfolding metersAgree
-  meters-agree = upTo-intro _ _ (λ i h. rw (b .meters i h, b .senders i h))
+  meters-agree = upTo-intro _ _ (λ i h. rw (b .meters i h, b .senders i h .off))
 
   meter-bits-fit : meterBitsFit s ≡ true
   unfolding meterBitsFit
   meter-bits-fit = upTo-intro _ _ (λ i h. rw (b .meters i h, zero-mul))
 
+  words-fit : wordsFit s ≡ true
+  unfolding wordsFit
+  words-fit =
+      let senders : eachSender s (λ i. not (allZero (senderAt s i .rng))) ≡ true = upTo-intro _ _ (λ i h. rw (b .senders i h .words)) in
+      let togglers : eachSender s (λ i. not (allZero (togglerAt s i .rng))) ≡ true = upTo-intro _ _ (λ i h. rw (b .togglers i h .words)) in
+      rw (senders, togglers, b .line, b .words)
+
   past-fit : pastFit s ≡ true
   unfolding pastFit
   past-fit =
-      let off : eachSender s (λ i. startedFit s (senderAt s i .state)) ≡ true = upTo-intro _ _ (λ i h. rw (b .senders i h)) in
+      let off : eachSender s (λ i. startedFit s (senderAt s i .state)) ≡ true = upTo-intro _ _ (λ i h. rw (b .senders i h .off)) in
       let empty : eachSender s (λ i. meterStartFit s (meterAt s i .«current_start»)) ≡ true = upTo-intro _ _ (λ i h. rw (b .meters i h)) in
       rw (off, empty, b .line)
 
@@ -303,7 +318,7 @@ module _ (s : Simulation) (b : Blank s) (a : Ready s) where
   held-times-fit : heldTimesFit s ≡ true
   unfolding heldTimesFit
   held-times-fit =
-      let off : eachSender s (λ i. heldSender (senderAt s i .state)) ≡ true = upTo-intro _ _ (λ i h. rw (b .senders i h)) in
+      let off : eachSender s (λ i. heldSender (senderAt s i .state)) ≡ true = upTo-intro _ _ (λ i h. rw (b .senders i h .off)) in
       let toggles : eachSender s (λ i. held (togglerAt s i .«next_toggle»)) ≡ true = upTo-intro _ _ (λ i h. held-soon _ (b .togglers i h .soon)) in
       let empty : eachSender s (λ i. heldIfAny (meterAt s i .«current_start»)) ≡ true = upTo-intro _ _ (λ i h. rw (b .meters i h)) in
       let queued : upTo queuePlaces (λ k. heldQueued s (queuedAt s k)) ≡ true = upTo-intro _ _ (a .later) in
@@ -313,7 +328,7 @@ module _ (s : Simulation) (b : Blank s) (a : Ready s) where
   blank-fit =
       fit-intro s (network-fit s b) (rings-fit s b) (packets-fit s b) (bits-fit s b) clock-fit held-times-fit (past-fit s b) (totals-fit s b) (sums-fit s b)
       (records-fit s b) (due-fit s b) (counts-fit s b) (windows-fit s b) (timers-fit s b) (togglers-agree s b) (meters-agree s b) (meter-bits-fit s b)
-      queue-fit
+      queue-fit (words-fit s b)
 
 -- ---- the queue: each part at its own next time
 
@@ -342,7 +357,7 @@ module _ (s : Simulation) (b : Blank s) where
   soon k =
       role-elim (λ (role : Role). Soon (ownTime s role)) (s .network .senders) k
       (rw (b .line) tt)
-      (λ i h. rw (b .senders i h) tt)
+      (λ i h. rw (b .senders i h .off) tt)
       (λ i h. b .togglers i h .soon)
       tt
 
@@ -352,7 +367,7 @@ module _ (s : Simulation) (b : Blank s) where
   own-same head queue k =
       role-elim (λ (role : Role). ownTime (withHead (withQueue s queue) head) role ≡ ownTime s role) (s .network .senders) k
       (rw (b .line))
-      (λ i h. rw (b .senders i h))
+      (λ i h. rw (b .senders i h .off))
       (λ i h. refl)
       refl
 
@@ -380,7 +395,7 @@ module _ (s : Simulation) (b : Blank s) where
 
   after-blank : (time : OptionTime) → Blank (after s time)
   after-blank time =
-      record { network = b .network; words = b .words; line = b .line; senders = b .senders; togglers = b .togglers; meters = b .meters }
+      record { network = b .network; rng = b .rng; line = b .line; words = b .words; senders = b .senders; togglers = b .togglers; meters = b .meters }
 
   -- a place that the pick left as it was is queued at the part's own next time
   place-same : (time x : OptionTime) (k : ℕ) → k < queuePlaces → x ≡ getD (allQueued s) k noQueued .time → sameTime x (nextTimeOf (after s time) k) ≡ true
@@ -452,5 +467,5 @@ fresh-fit n seed =
     let e = eqb-true (networkStop n) 0 t in
     let off = both-r (timesFit (n .on)) (timesFit (n .off)) (fit-network n e .times) in
     let new = populate-new (n .senders) 0 (c .parent) (n .off) noParts off no-parts in
-    cond-elim Fit (eqb (parts .number) 0) _ (notBuilt (parts .number)) (λ z. fit-picked _ (unqueued-blank n (c .child) parts e new)) (λ z. empty-fit))
+    cond-elim Fit (eqb (parts .number) 0) _ (notBuilt (parts .number)) (λ z. fit-picked _ (unqueued-blank n (c .child) parts e (zero-words .child (fromSeed seed)) new)) (λ z. empty-fit))
     (λ t. empty-fit)

@@ -2,7 +2,7 @@
 -- `ticking` for a build, a tick, a run and a read. Assumes nothing.
 use lib.Ieee.{ofBits, round, units, odd, size, span, climb, add, mul, sub, neg, sum, div, ofInt, lt, le, eq}
 use Rattle.rand.specs.SplitMix64.{mixed}
-use Rattle.rand.specs.Generator.{fromWords, outputOf, movedOn, fromSeed, childOf}
+use Rattle.rand.specs.Generator.{outputOf, movedOn, fromSeed, allZero, replaced, fromWords, childOf}
 use Rattle.rand.specs.Draws.{sampleOf, unitOf, uniformOf, drawOf, redraw}
 use Rattle.flows.specs.Sums.{summedOf, averageRtt}
 use Rattle.meters.specs.Meter.{startFit, meterFit, ready, switchedOf, recordedOf, enabledTime, readOf}
@@ -23,7 +23,7 @@ unfolding ofBits round units odd size span climb add mul sub neg sum div ofInt l
 doubles = tt
 
 unfoldable pub draws : Unit {0}
-unfolding doubles mixed fromWords outputOf movedOn fromSeed childOf sampleOf unitOf uniformOf drawOf redraw
+unfolding doubles mixed outputOf movedOn fromSeed allZero replaced fromWords childOf sampleOf unitOf uniformOf drawOf redraw
 draws = tt
 
 unfoldable pub meters : Unit {0}
@@ -36,7 +36,7 @@ unfolding doubles Link.nextTransmit Link.nextDeliver Link.nextTick Sender.sender
 nextTimes = tt
 
 unfoldable pub fitting : Unit {0}
-unfolding nextTimes fromWords networkStop Fit.networkFit Fit.ringsFit Fit.packetsFit Fit.bitsFit Fit.clockFit Fit.heldTimesFit Fit.pastFit Fit.totalsFit Fit.sumsFit Fit.recordsFit Fit.dueFit Fit.countsFit Fit.windowsFit Fit.timersFit Fit.togglersAgree Fit.metersAgree Fit.meterBitsFit Fit.queueFit Fit.fit
+unfolding nextTimes mixed fromSeed allZero replaced fromWords networkStop Fit.networkFit Fit.ringsFit Fit.packetsFit Fit.bitsFit Fit.clockFit Fit.heldTimesFit Fit.pastFit Fit.totalsFit Fit.sumsFit Fit.recordsFit Fit.dueFit Fit.countsFit Fit.windowsFit Fit.timersFit Fit.togglersAgree Fit.metersAgree Fit.meterBitsFit Fit.queueFit Fit.wordsFit Fit.fit
 fitting = tt
 
 unfoldable pub link : Unit {0}

@@ -33,7 +33,7 @@ use Rattle.remy.specs.declared.simulation.Built.{Built}
 use Rattle.remy.specs.Network.{networkStop}
 use Rattle.remy.specs.State.{noSender, noToggler, noMeter, withQueue}
 use Rattle.remy.specs.Queue.{picked}
-use Rattle.remy.specs.Build.{emptyNetwork, emptySimulation, newSender, zeroWords, blankPacket, blankTransit, blankToggler, Parts, noParts, populate, unqueued, ownTimes, queuedAll, notBuilt, buildFrom, buildOf}
+use Rattle.remy.specs.Build.{emptyNetwork, emptySimulation, newSender, blankWords, blankPacket, blankTransit, blankToggler, Parts, noParts, populate, unqueued, ownTimes, queuedAll, notBuilt, buildFrom, buildOf}
 use Rattle.remy.specs.History.{Fresh}
 use Rattle.remy.specs.HeldTimes.{Full, IfAny, timerOf, Holds, Has}
 use Rattle.remy.specs.Account.{Limited}
@@ -112,9 +112,9 @@ populate-new (suc left) i root off p k =
 no-parts-new : NewParts noParts
 no-parts-new =
     record {
-      senders-full = same-length (newSender zeroWords) 16;
+      senders-full = same-length (newSender blankWords) 16;
       togglers-full = same-length blankToggler 16;
-      senders = all-same NewSender (newSender zeroWords) noSender (new-sender zeroWords) (record { sent = refl; timer = tt }) 16;
+      senders = all-same NewSender (newSender blankWords) noSender (new-sender blankWords) (record { sent = refl; timer = tt }) 16;
       togglers = all-same (λ (x : Toggler). Plain (x .«next_toggle»)) blankToggler noToggler zero-plain plain-nan 16;
     }
 

@@ -49,8 +49,8 @@ abbrev pub newSender : Rng → LossySender
 newSender g = record { «packets_sent» = 0; state = State.WaitingForEnable; rng = g }
 
 -- what fills the arrays where no part stands
-abbrev pub zeroWords : Rng
-zeroWords = fromWords 0 0 0 0
+abbrev pub blankWords : Rng
+blankWords = fromSeed 0
 
 abbrev pub blankPacket : Packet
 blankPacket = record { sender = 0; seq = 0; «sent_time» = timeOf zeroF }
@@ -59,7 +59,7 @@ abbrev pub blankTransit : Transit
 blankTransit = record { packet = blankPacket; due = timeOf zeroF }
 
 abbrev pub blankToggler : Toggler
-blankToggler = record { enabled = false; «next_toggle» = timeOf zeroF; rng = zeroWords }
+blankToggler = record { enabled = false; «next_toggle» = timeOf zeroF; rng = blankWords }
 
 -- The senders and togglers made so far, and the number: 8 once a first toggle's draw was spent.
 pub record Parts : Type 0 where
@@ -68,7 +68,7 @@ pub record Parts : Type 0 where
   pub togglers : List Toggler
 
 abbrev pub noParts : Parts
-noParts = record { number = 0; senders = replicate 16 (newSender zeroWords); togglers = replicate 16 blankToggler }
+noParts = record { number = 0; senders = replicate 16 (newSender blankWords); togglers = replicate 16 blankToggler }
 
 -- Root children: link, then sender and toggler of each i. First toggles drawn.
 unfoldable pub populate : ℕ → ℕ → Rng → ContinuousDistribution → Parts → Parts
@@ -133,7 +133,7 @@ emptySimulation =
       line = newLine emptyWords;
       waiting = replicate 512 blankPacket;
       «on_line» = replicate 512 blankTransit;
-      senders = replicate 16 (newSender zeroWords);
+      senders = replicate 16 (newSender blankWords);
       togglers = replicate 16 blankToggler;
       meters = replicate 16 newMeter;
       queue = replicate queuePlaces noQueued;

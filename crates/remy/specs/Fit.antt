@@ -1,4 +1,4 @@
--- Document 01, the paragraph "Unfit" below "Stops": a clause each, in the paragraph's order, and their conjunction. Definitions only.
+-- Document 01, the paragraph "Unfit" below "Stops": a clause each, in the paragraph's order, then document 02's, and their conjunction. Definitions only.
 -- Each definition says what a fit state has; a state in which one is false is unfit (9). Only the network's own senders, togglers and meters are read.
 use Prim.Native.Nat.{ℕ, zero, suc, _+_, _*_}
 use mathlib.Core.Bool.{Bool, true, false, not, _&&_, _||_, Bool·beq, cond}
@@ -9,6 +9,7 @@ use Rattle.quantities.specs.declared.time.Time.{Time}
 use Rattle.quantities.specs.declared.time.OptionTime.{OptionTime}
 use Rattle.quantities.specs.declared.time.OptionTime.the-variants.{None, Some}
 use Rattle.quantities.specs.Doubles.{zeroF, power, largest, inRange}
+use Rattle.rand.specs.Generator.{allZero}
 use Rattle.meters.specs.Meter.{isOn, totalFit, sumFit}
 use Rattle.link.specs.declared.packet.Packet.{Packet}
 use Rattle.link.specs.declared.packet.Transit.{Transit}
@@ -211,6 +212,13 @@ isNext (Next.Part j) k = eqb j k
 unfoldable pub queueFit : Simulation → Bool
 queueFit s = nextFit s (s .head .next) && upTo queuePlaces (λ k. isNext (s .head .next) k || sameTime (queuedAt s k) (nextTimeOf s k))
 
+-- document 02, K5: four zero words, in the generator of the link, of a sender or of a toggler
+unfoldable pub wordsFit : Simulation → Bool
+wordsFit s =
+    not (allZero (s .line .rng))
+    && eachSender s (λ i. not (allZero (senderAt s i .rng)))
+    && eachSender s (λ i. not (allZero (togglerAt s i .rng)))
+
 -- ---- their conjunction
 
 unfoldable pub fit : Simulation → Bool
@@ -233,3 +241,4 @@ fit s =
     && metersAgree s
     && meterBitsFit s
     && queueFit s
+    && wordsFit s

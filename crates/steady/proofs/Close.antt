@@ -1,5 +1,5 @@
 -- From the facts by parts to the test: a state between ticks is steady. Assumes nothing.
-use mathlib.Core.Path.{_≡_, refl, sym, subst}
+use mathlib.Core.Path.{_≡_, refl, sym, ap, subst}
 use mathlib.Core.Bool.{Bool, true, false, not, _&&_, _||_, Bool·beq}
 use Prim.Native.Nat.{ℕ, _+_, _*_, _<_}
 use native.Mathlib.Decide.{ℕ-discrete}
@@ -12,6 +12,7 @@ use Rattle.quantities.specs.declared.time.OptionTime.{OptionTime}
 use Rattle.quantities.specs.declared.time.OptionTime.the-variants.{None, Some}
 use Rattle.quantities.specs.Doubles.{zeroF, power}
 use Rattle.quantities.proofs.Order.{le-trans}
+use Rattle.rand.specs.Generator.{allZero}
 use Rattle.meters.specs.Meter.{isOn, totalFit, sumFit}
 use Rattle.link.specs.declared.packet.Packet.{Packet}
 use Rattle.link.specs.declared.packet.Transit.{Transit}
@@ -25,7 +26,7 @@ use Rattle.remy.specs.declared.simulation.Simulation.{Simulation}
 use Rattle.remy.specs.Network.{between, networkStop}
 use Rattle.remy.specs.State.{senderAt, togglerAt, meterAt, queuedAt, waitingItems, onLineItems, onLinePackets, packetBits, totalBits}
 use Rattle.remy.specs.Queue.{nextTimeOf}
-use Rattle.remy.specs.Fit.{every, upTo, eachSender, packetFit, held, heldIfAny, heldSender, heldQueued, isNext, sinceStart, startedFit, meterStartFit, countOf, ackFit, heldWindowFit, isTimed, timerFit, senderOn, sameTime, nextFit, networkFit, ringsFit, packetsFit, bitsFit, clockFit, heldTimesFit, pastFit, totalsFit, sumsFit, recordsFit, dueFit, countsFit, windowsFit, timersFit, togglersAgree, metersAgree, meterBitsFit, queueFit, fit}
+use Rattle.remy.specs.Fit.{every, upTo, eachSender, packetFit, held, heldIfAny, heldSender, heldQueued, isNext, sinceStart, startedFit, meterStartFit, countOf, ackFit, heldWindowFit, isTimed, timerFit, senderOn, sameTime, nextFit, networkFit, ringsFit, packetsFit, bitsFit, clockFit, heldTimesFit, pastFit, totalsFit, sumsFit, recordsFit, dueFit, countsFit, windowsFit, timersFit, togglersAgree, metersAgree, meterBitsFit, queueFit, wordsFit, fit}
 use Rattle.remy.proofs.Facts.{both-i, range-i}
 use Rattle.remy.proofs.Fresh.{or-else, upTo-intro, fit-intro}
 use Rattle.steady.specs.Steady.{dueSoon, steady}
@@ -209,6 +210,13 @@ module _ (s : Simulation) (b : Body s) where
       each-part (λ i. eqb (meterAt s i .total .0) (meterAt s i .records * s .network .bits))
       (λ i o. eq-eqb (meterAt s i .total .0) (meterAt s i .records * s .network .bits) (o .meter .bits))
 
+  words-fit : wordsFit s ≡ true
+  unfolding wordsFit
+  words-fit =
+      let senders : eachSender s (λ i. not (allZero (senderAt s i .rng))) ≡ true = each-part _ (λ i o. ap not (o .words)) in
+      let togglers : eachSender s (λ i. not (allZero (togglerAt s i .rng))) ≡ true = each-part _ (λ i o. ap not (o .toggler-words)) in
+      rw (b .line .words, senders, togglers)
+
   due-soon : every (dueSoon s) (onLineItems s) ≡ true
   due-soon = each-transit (dueSoon s) (λ x m. is-true (dueSoon s x) (m .soon))
 
@@ -251,5 +259,6 @@ closed s j w =
     let b = w .body in
     both-i (fit s) (every (dueSoon s) (onLineItems s))
     (fit-intro s (network-fit s b) (rings-fit s b) (packets-fit s b) (bits-fit s b) (clock-fit s b) (held-times-fit s j w) (past-fit s b) (totals-fit s b) (sums-fit s b)
-    (records-fit s b) (due-fit s b) (counts-fit s b) (windows-fit s b) (timers-fit s b) (togglers-agree s b) (meters-agree s b) (meter-bits-fit s b) (queue-fit s j w))
+    (records-fit s b) (due-fit s b) (counts-fit s b) (windows-fit s b) (timers-fit s b) (togglers-agree s b) (meters-agree s b) (meter-bits-fit s b) (queue-fit s j w)
+    (words-fit s b))
     (due-soon s b)

@@ -1,6 +1,6 @@
 -- A steady state by the parts of the state that each fact reads: the line with its packets, a sender with its toggler and meter, a place of the queue. Assumes nothing.
 use mathlib.Core.Path.{_≡_}
-use mathlib.Core.Bool.{true}
+use mathlib.Core.Bool.{true, false}
 use mathlib.Core.List.{List}
 use Prim.Native.Nat.{ℕ, _+_, _*_, _≤_, _<_}
 use lib.Dec.{T}
@@ -10,6 +10,8 @@ use Rattle.quantities.specs.declared.time.OptionTime.{OptionTime}
 use Rattle.quantities.specs.declared.time.OptionTime.the-variants.{Some}
 use Rattle.quantities.specs.Doubles.{zeroF, power}
 use Rattle.quantities.specs.Units.{spanOf, spanAfter}
+use Rattle.rand.specs.declared.generator.Rng.{Rng}
+use Rattle.rand.specs.Generator.{allZero}
 use Rattle.meters.specs.declared.meter.AverageFlowMeter.{AverageFlowMeter}
 use Rattle.meters.specs.Meter.{isOn, totalFit, sumFit}
 use Rattle.link.specs.declared.packet.Packet.{Packet}
@@ -50,6 +52,10 @@ pub record Past (clock t : Time) : Type 0 where
 abbrev pub PastIfAny : Time → OptionTime → Type 0
 PastIfAny clock x = IfAny (Past clock) x
 
+-- words that are not all zero
+abbrev pub Words : Rng → Type 0
+Words g = allZero g ≡ false
+
 -- ---- the line
 
 -- a packet of one of n senders, where sender i sent so many
@@ -74,6 +80,7 @@ pub record LineOk (net : RemyNetwork) (sent : ℕ → ℕ) (clock : Time) (l : L
   pub moving-ok : All (TransitOk (net .senders) sent clock (net .delay)) (items noTransit moving (l .«on_line»))
   pub order : rising (items noTransit moving (l .«on_line»)) ≡ true
   pub free : Held (l .«earliest_transmit»)
+  pub words : Words (l .rng)
 
 -- ---- a sender with its toggler and meter
 
@@ -111,6 +118,8 @@ pub record PartOk (net : RemyNetwork) (clock : Time) (x : LossySender) (t : Togg
   pub toggle-ahead : NotAfter clock (t .«next_toggle»)
   pub meter-on : isOn (m .«current_start») ≡ senderOn (x .state)
   pub meter : MeterOk (net .bits) clock m
+  pub words : Words (x .rng)
+  pub toggler-words : Words (t .rng)
 
 -- ---- the whole state
 

@@ -12,6 +12,7 @@ use lib.Ieee.{le}
 use lib.Ieee.Bits.{is-true}
 use Rattle.quantities.specs.Units.{spanOf, rateOf, amountOverRate, spanAfter}
 use Rattle.quantities.proofs.Order.{le-known-r, le-refl}
+use Rattle.rand.proofs.ZeroWords.{unit-words}
 use Rattle.link.specs.declared.packet.Packet.{Packet}
 use Rattle.link.specs.declared.packet.Transit.{Transit}
 use Rattle.link.specs.declared.link.Line.{Line}
@@ -105,6 +106,7 @@ module _ (s : Simulation) (b : Body s) where
           moving-ok = moving-now .1;
           order = rising-rest (frontOf s) behind (subst (λ (l : List Transit). rising l ≡ true) split-moving (b .line .order));
           free = b .line .free;
+          words = unit-words (s .line .rng) (b .line .words);
         })
         (λ i h. omega (arith, b .records i h, fewer-move i))
 
@@ -176,6 +178,7 @@ module _ (s : Simulation) (b : Body s) where
               subst (λ (l : List Transit). rising l ≡ true) (sym grown-moving)
               (rising-end (begun s) (onLineItems s) (b .line .order) (all-map Ok (λ x. NotAfter (x .due) (begun s .due)) (λ x q. q .soon) (onLineItems s) (b .line .moving-ok)));
           free = new-held (s .head .clock) _ early (sending-within ok);
+          words = b .line .words;
         })
         (λ i h. omega (arith, b .records i h, same-count i))
 
@@ -216,5 +219,6 @@ module _ (s : Simulation) (b : Body s) where
           moving-ok = b .line .moving-ok;
           order = b .line .order;
           free = b .line .free;
+          words = b .line .words;
         })
         (λ i h. omega (arith, room-for i h, more-wait i))

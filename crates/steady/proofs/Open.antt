@@ -5,7 +5,7 @@ use mathlib.Core.List.{List, [], _∷_}
 use Prim.Native.Nat.{ℕ, _+_, _*_, _≤_, _<_}
 use native.Mathlib.Decide.{ℕ-discrete}
 use native.Mathlib.Omega.{arith}
-use borrow.Author.Tests.{ne-eqb, leb-true, ltb-true, eqb-true}
+use borrow.Author.Tests.{ne-eqb, leb-true, ltb-true, eqb-true, not-true}
 use lib.Dec.{leb, ltb, eqb}
 use lib.Ieee.{le, eq}
 use Rattle.quantities.specs.declared.time.Time.{Time}
@@ -14,6 +14,7 @@ use Rattle.quantities.specs.declared.time.OptionTime.the-variants.{None, Some}
 use Rattle.quantities.specs.Doubles.{zeroF, largest}
 use Rattle.quantities.specs.Units.{latestOf, earliestOptOf}
 use Rattle.quantities.proofs.Order.{le-trans}
+use Rattle.rand.specs.Generator.{allZero}
 use Rattle.meters.specs.Meter.{isOn, totalFit, sumFit}
 use Rattle.link.specs.declared.packet.Packet.{Packet}
 use Rattle.link.specs.declared.packet.Transit.{Transit}
@@ -31,7 +32,7 @@ use Rattle.remy.specs.declared.simulation.Simulation.{Simulation}
 use Rattle.remy.specs.Network.{between, networkStop}
 use Rattle.remy.specs.State.{Role, link, sender, toggler, roleOf, noTransit, senderAt, togglerAt, meterAt, queuedAt, frontOf, waitingItems, onLineItems, onLinePackets, packetBits, totalBits}
 use Rattle.remy.specs.Queue.{ownTime, nextTimeOf, partOf}
-use Rattle.remy.specs.Fit.{every, upTo, eachSender, packetFit, held, heldIfAny, isIdle, heldSender, heldQueued, isNext, sinceStart, startedFit, meterStartFit, countOf, rising, ackFit, heldWindowFit, isTimed, timerFit, senderOn, sameTime, nextFit, networkFit, packetsFit, bitsFit, clockFit, totalsFit, sumsFit, recordsFit, dueFit, countsFit, windowsFit, timersFit, togglersAgree, metersAgree, meterBitsFit, queueFit, fit}
+use Rattle.remy.specs.Fit.{every, upTo, eachSender, packetFit, held, heldIfAny, isIdle, heldSender, heldQueued, isNext, sinceStart, startedFit, meterStartFit, countOf, rising, ackFit, heldWindowFit, isTimed, timerFit, senderOn, sameTime, nextFit, networkFit, packetsFit, bitsFit, clockFit, totalsFit, sumsFit, recordsFit, dueFit, countsFit, windowsFit, timersFit, togglersAgree, metersAgree, meterBitsFit, queueFit, wordsFit, fit}
 use Rattle.remy.proofs.Facts.{both-l, both-r, holds, range-low, range-high, between-low, between-high, upTo-at, FitState, fit-state}
 use Rattle.remy.proofs.Networks.{fit-network, few-senders}
 use Rattle.remy.proofs.Steps.{cond-elim}
@@ -40,7 +41,7 @@ use Rattle.remy.proofs.Lists.{All, all-unmapped}
 use Rattle.remy.proofs.Front.{rings}
 use Rattle.remy.specs.HeldTimes.{Full}
 use Rattle.steady.specs.Steady.{dueSoon, steady}
-use Rattle.steady.proofs.Facts.{NotAfter, Held, Past, PastIfAny, PacketOk, TransitOk, LineOk, TimerIfAny, StateOk, MeterOk, PartOk, sentOf, Body, QueueBut, Between}
+use Rattle.steady.proofs.Facts.{NotAfter, Held, Past, PastIfAny, PacketOk, TransitOk, LineOk, TimerIfAny, StateOk, MeterOk, PartOk, Words, sentOf, Body, QueueBut, Between}
 use Rattle.steady.proofs.Clauses.{HeldTimes, held-times, PastTimes, past-times}
 use Rattle.steady.proofs.Lists.{all-with, every-all}
 use Rattle.steady.proofs.Ahead.{HeldIfAny, FromIfAny, ahead-now, ahead-latest, queued-ahead, from-same, from-right}
@@ -194,6 +195,21 @@ module _ (s : Simulation) (j : ℕ) (fits : FitState s) (full : Full s) (next : 
       all-with (λ p. packetFit s p ≡ true) (λ p. sinceStart s (p .«sent_time») ≡ true) (PacketOk (s .network .senders) (sentOf s) (s .head .clock)) packet-of ps
       (every-all (packetFit s) ps e) (every-all (λ p. sinceStart s (p .«sent_time»)) ps t)
 
+  -- ---- words
+
+  abbrev senders-words : Bool
+  senders-words = eachSender s (λ i. not (allZero (senderAt s i .rng)))
+
+  abbrev togglers-words : Bool
+  togglers-words = eachSender s (λ i. not (allZero (togglerAt s i .rng)))
+
+  by-senders-words : (not (allZero (s .line .rng)) && senders-words) ≡ true
+  unfolding wordsFit
+  by-senders-words = both-l (not (allZero (s .line .rng)) && senders-words) togglers-words (fits .words)
+
+  link-words : Words (s .line .rng)
+  link-words = not-true (allZero (s .line .rng)) (both-l (not (allZero (s .line .rng))) senders-words by-senders-words)
+
   -- ---- a sender with its toggler and meter
 
   start-of : (o : OptionTime) → meterStartFit s o ≡ true → PastIfAny (s .head .clock) o
@@ -245,7 +261,7 @@ module _ (s : Simulation) (j : ℕ) (fits : FitState s) (full : Full s) (next : 
         }
 
     pub part-ok : PartOk (s .network) (s .head .clock) (senderAt s i) (togglerAt s i) (meterAt s i)
-    unfolding countsFit windowsFit timersFit togglersAgree metersAgree
+    unfolding countsFit windowsFit timersFit togglersAgree metersAgree wordsFit
     part-ok =
         let few-sent = leb (senderAt s i .«packets_sent») 16777216 in
         let few-acked = ackFit (senderAt s i .state) in
@@ -270,6 +286,10 @@ module _ (s : Simulation) (j : ℕ) (fits : FitState s) (full : Full s) (next : 
               (beq-same (senderOn (senderAt s i .state)) (isOn (meterAt s i .«current_start»))
               (at (λ k. Bool·beq (senderOn (senderAt s k .state)) (isOn (meterAt s k .«current_start»))) (fits .meters)));
           meter = meter-ok;
+          words = not-true (allZero (senderAt s i .rng)) (at (λ k. not (allZero (senderAt s k .rng))) (both-r (not (allZero (s .line .rng))) senders-words by-senders-words));
+          toggler-words =
+              not-true (allZero (togglerAt s i .rng))
+              (at (λ k. not (allZero (togglerAt s k .rng))) (both-r (not (allZero (s .line .rng)) && senders-words) togglers-words (fits .words)));
         }
 
     records-ok : meterAt s i .records + countOf i (waitingItems s) + countOf i (onLinePackets s) ≤ senderAt s i .«packets_sent»
@@ -305,6 +325,7 @@ module _ (s : Simulation) (j : ℕ) (fits : FitState s) (full : Full s) (next : 
               (every-all (dueSoon s) xs soon));
           order = rises;
           free = free-held;
+          words = link-words;
         }
 
     body : Body s

@@ -10,6 +10,7 @@ use lib.Ieee.{lt}
 use Rattle.quantities.specs.declared.time.Time.{Time}
 use Rattle.quantities.specs.Units.{spanOf, since}
 use Rattle.rand.specs.declared.distribution.ContinuousDistribution.{ContinuousDistribution}
+use Rattle.rand.proofs.ZeroWords.{zero-words}
 use Rattle.meters.specs.Meter.{isOn, switchedOf, recordedOf}
 use Rattle.link.specs.declared.packet.Packet.{Packet}
 use Rattle.sender.specs.declared.lossy.Enabled.{Enabled}
@@ -31,7 +32,7 @@ use Rattle.remy.proofs.Facts.{both-l, both-r}
 use Rattle.remy.proofs.Networks.{FitNetwork, fit-network, few-bits, far}
 use Rattle.remy.proofs.Steps.{cond-elim}
 use Rattle.remy.proofs.Fresh.{redraw-within}
-use Rattle.steady.proofs.Facts.{NotAfter, Held, EnabledOk, StateOk, PartOk, Body, Loose}
+use Rattle.steady.proofs.Facts.{NotAfter, Held, Words, EnabledOk, StateOk, PartOk, Body, Loose}
 use Rattle.steady.proofs.Stores.{unset, sender-set, toggler-set, meter-set, store}
 use Rattle.steady.proofs.Times.{Early, now-past, new-held, new-ahead}
 use Rattle.steady.proofs.Senders.{first-fit, timer-ok, SentOk, sent-ok, acked-ok}
@@ -42,18 +43,25 @@ record Changed (clock : Time) (t t' : Toggler) : Type 0 where
   other : t' .enabled ≡ not (t .enabled)
   held : Held (t' .«next_toggle»)
   ahead : NotAfter clock (t' .«next_toggle»)
+  words : Words (t' .rng)
 
-toggled-ok : (t : Toggler) (clock : Time) (on off : ContinuousDistribution) → Early clock → timesFit on ≡ true → timesFit off ≡ true → toggleOf t clock on off .number ≡ 0
-    → Changed clock t (toggleOf t clock on off .toggler)
+toggled-ok : (t : Toggler) (clock : Time) (on off : ContinuousDistribution) → Early clock → Words (t .rng) → timesFit on ≡ true → timesFit off ≡ true
+    → toggleOf t clock on off .number ≡ 0 → Changed clock t (toggleOf t clock on off .toggler)
 unfolding toggleOf
-toggled-ok t clock on off c f g =
+toggled-ok t clock on off c w f g =
     let d = toggleDraw t on off in
     let changed : Toggler = record { enabled = not (t .enabled); «next_toggle» = nextToggle clock (d .value); rng = d .rng } in
     let fine : timesFit (cond (not (t .enabled)) on off) ≡ true = cond-elim (λ (x : ContinuousDistribution). timesFit x ≡ true) (not (t .enabled)) on off (λ e. f) (λ e. g) in
     let short = far (d .value) (redraw-within 8 (cond (not (t .enabled)) on off) fine (t .rng)) in
     cond-elim (λ (x : Toggled). x .number ≡ 0 → Changed clock t (x .toggler)) (eqb (d .number) 0)
     (record { number = 0; toggler = changed }) (record { number = d .number; toggler = t })
-    (λ drawn z. record { other = refl; held = new-held clock (spanOf (d .value)) c short; ahead = new-ahead clock (spanOf (d .value)) c short })
+    (λ drawn z.
+    record {
+      other = refl;
+      held = new-held clock (spanOf (d .value)) c short;
+      ahead = new-ahead clock (spanOf (d .value)) c short;
+      words = zero-words .redrawn (cond (not (t .enabled)) on off) (t .rng) w;
+    })
     (λ spent z. absurd (eqb-false (d .number) 0 spent z))
 
 module _ (s : Simulation) (b : Body s) (early : Early (s .head .clock)) where
@@ -77,6 +85,8 @@ module _ (s : Simulation) (b : Body s) (early : Early (s .head .clock)) where
           toggle-ahead = part .toggle-ahead;
           meter-on = part .meter-on ∙ on;
           meter = part .meter;
+          words = part .words;
+          toggler-words = part .toggler-words;
         })
         (let room = b .records i h in omega (arith, room, more))
 
@@ -142,6 +152,8 @@ module _ (s : Simulation) (b : Body s) (early : Early (s .head .clock)) where
             toggle-ahead = part .toggle-ahead;
             meter-on = ap isOn (k .same) ∙ part .meter-on ∙ ap senderOn on;
             meter = k .kept;
+            words = part .words;
+            toggler-words = part .toggler-words;
           })
           (let one = k .one in omega (arith, one, room))
 
@@ -174,9 +186,9 @@ module _ (s : Simulation) (b : Body s) (early : Early (s .head .clock)) where
         (sym e ∙ changed .other ∙ ap not (k .toggler-on ∙ sym (k .meter-on))) (k .meter)
 
     -- the sender, on or off as its toggler is
-    switched : (on : Bool) → t .enabled ≡ on → (x : LossySender) → x .«packets_sent» ≡ senderAt s i .«packets_sent» → StateOk (s .network .policy) (s .head .clock) (x .state)
-        → senderOn (x .state) ≡ on → Body (withMeter (withSender (withToggler s i t) i x) i (switchedOf (meterAt s i) on (s .head .clock) .meter))
-    switched on e x sent state own =
+    switched : (on : Bool) → t .enabled ≡ on → (x : LossySender) → x .«packets_sent» ≡ senderAt s i .«packets_sent» → x .rng ≡ senderAt s i .rng
+        → StateOk (s .network .policy) (s .head .clock) (x .state) → senderOn (x .state) ≡ on → Body (withMeter (withSender (withToggler s i t) i x) i (switchedOf (meterAt s i) on (s .head .clock) .meter))
+    switched on e x sent same state own =
         let k = b .parts i h in
         let m = switchedOf (meterAt s i) on (s .head .clock) .meter in
         let w = meter-now on e in
@@ -192,6 +204,8 @@ module _ (s : Simulation) (b : Body s) (early : Early (s .head .clock)) where
           toggle-ahead = changed .ahead;
           meter-on = w .other ∙ ap not (k .meter-on ∙ sym (k .toggler-on)) ∙ sym (changed .other) ∙ e ∙ sym own;
           meter = w .kept;
+          words = rw same (k .words);
+          toggler-words = changed .words;
         })
         (omega (arith, room, records, sent))
 
@@ -199,9 +213,9 @@ module _ (s : Simulation) (b : Body s) (early : Early (s .head .clock)) where
         → Body (withMeter (withSender (withToggler s i t) i (switchedSender (withToggler s i t) i on)) i (switchedOf (meterAt (withToggler s i t) i) on (s .head .clock) .meter))
     unfolding enabledOf disabledOf
     switch-body true e =
-        switched true e (switchedSender (withToggler s i t) i true) refl
+        switched true e (switchedSender (withToggler s i t) i true) refl refl
         (record { started = now-past (s .head .clock) early; ack = b .parts i h .sent; window = first-fit (s .network .policy) (net .policy); timer = tt }) refl
-    switch-body false e = switched false e (switchedSender (withToggler s i t) i false) refl tt refl
+    switch-body false e = switched false e (switchedSender (withToggler s i t) i false) refl refl tt refl
 
   pub toggle-body : (i : ℕ) → i < s .network .senders →
       let t = toggleOf (togglerAt s i) (s .head .clock) (s .network .on) (s .network .off) in
@@ -212,4 +226,4 @@ module _ (s : Simulation) (b : Body s) (early : Early (s .head .clock)) where
       let off = s .network .off in
       let t = toggleOf (togglerAt s i) (s .head .clock) on off .toggler in
       switch-body i h t
-      (toggled-ok (togglerAt s i) (s .head .clock) on off early (both-l (timesFit on) (timesFit off) (net .times)) (both-r (timesFit on) (timesFit off) (net .times)) z) (t .enabled) refl
+      (toggled-ok (togglerAt s i) (s .head .clock) on off early (b .parts i h .toggler-words) (both-l (timesFit on) (timesFit off) (net .times)) (both-r (timesFit on) (timesFit off) (net .times)) z) (t .enabled) refl

@@ -210,6 +210,7 @@ module _ (s : Simulation) (b : Body s) (t : Time) (ahead : Ahead (s .head .clock
                   transits-later c t (ahead .from) (net .senders) (sentOf s) (net .delay) due-later (onLineItems s) (b .line .order) first-from (b .line .moving-ok);
               order = b .line .order;
               free = b .line .free;
+              words = b .line .words;
             };
         parts = λ i h.
             let ok = b .parts i h in
@@ -222,6 +223,8 @@ module _ (s : Simulation) (b : Body s) (t : Time) (ahead : Ahead (s .head .clock
               toggle-ahead = unfold ownTime in least (toggler i) h;
               meter-on = ok .meter-on;
               meter = meter-later c t (ahead .from) (net .bits) (meterAt s i) (ok .meter);
+              words = ok .words;
+              toggler-words = ok .toggler-words;
             };
         records = b .records;
       }

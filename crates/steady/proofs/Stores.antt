@@ -46,6 +46,7 @@ line-more net sent sent' more clock l waiting moving k =
           (transit-more (net .senders) sent sent' more clock (net .delay)) (items noTransit moving (l .«on_line»)) (k .moving-ok);
       order = k .order;
       free = k .free;
+      words = k .words;
     }
 
 -- ---- lists that differ at i, where the new one has x

@@ -41,6 +41,7 @@ fn main() {
         b"# Not published: worked out from document 01's formulas by a second program (oracle/draws.py)\n",
     );
     children();
+    given();
     samples();
     draws();
     units();
@@ -110,6 +111,22 @@ fn children() {
     words_lines(made.parent);
 }
 
+// Words that are given: four zeros, in whose place are those of seed 0, and words of which one is not
+// zero, which are taken.
+fn given() {
+    io::write_all(
+        1,
+        b"given four zero words, then one word that is not zero\n",
+    );
+    words_lines(Rng::from_words(0, 0, 0, 0));
+    words_lines(Rng::from_words(1, 0, 0, 0));
+    words_lines(Rng::from_words(0, 1, 0, 0));
+    words_lines(Rng::from_words(0, 0, 1, 0));
+    words_lines(Rng::from_words(0, 0, 0, 1));
+    io::write_all(1, b"outputs from four zero words\n");
+    outputs(Generator::Xoshiro(Rng::from_words(0, 0, 0, 0)), 10);
+}
+
 // Samples at the outputs 0, 4095, 4096, 41943041 and 2^64 - 1.
 fn samples() {
     io::write_all(1, b"samples\n");
@@ -134,7 +151,12 @@ fn draws() {
         ContinuousDistribution::Uniform(0.0, 5e-324),
         Rng::from_words(0, 0, 0, 1099511627776),
     );
-    io::write_all(1, b"uniform 0..2^-1074 from four zero words: spent\n");
+    io::write_all(1, b"uniform 0..2^-1074 from the words 0, 0, 0, 1: spent\n");
+    positive(
+        ContinuousDistribution::Uniform(0.0, 5e-324),
+        Rng::from_words(0, 0, 0, 1),
+    );
+    io::write_all(1, b"uniform 0..2^-1074 from four zero words\n");
     positive(
         ContinuousDistribution::Uniform(0.0, 5e-324),
         Rng::from_words(0, 0, 0, 0),

@@ -1,7 +1,8 @@
 //! Stand-in for `rand_xoshiro`: xoshiro256++ as published by Blackman and Vigna.
 //!
 //! A seed gives the four words as four SplitMix64 outputs; a child's words are four successive
-//! outputs of its parent. Any four words are taken, four zeros too.
+//! outputs of its parent. Four zero words, given or drawn for a child, are replaced by those of seed
+//! 0, as the crate does (document 02, K5).
 
 use rand::{Error, RngCore, SeedableRng};
 
@@ -17,6 +18,9 @@ impl Xoshiro256PlusPlus {
     }
 
     pub fn from_words(words: [u64; 4]) -> Self {
+        if words == [0; 4] {
+            return Self::seed_from_u64(0);
+        }
         Self { words }
     }
 }
@@ -39,7 +43,9 @@ impl RngCore for Xoshiro256PlusPlus {
 impl SeedableRng for Xoshiro256PlusPlus {
     fn seed_from_u64(seed: u64) -> Self {
         let mut state = seed;
-        Self::from_words(std::array::from_fn(|_| split_mix_64(&mut state)))
+        Self {
+            words: std::array::from_fn(|_| split_mix_64(&mut state)),
+        }
     }
 
     fn from_rng<R: RngCore>(mut parent: R) -> Result<Self, Error> {
@@ -65,5 +71,26 @@ mod tests {
         let mut generator = Xoshiro256PlusPlus::from_words([1, 2, 3, 4]);
         assert_eq!(generator.next_u64(), 41_943_041);
         assert_eq!(generator.next_u64(), 58_720_359);
+    }
+
+    #[test]
+    fn four_zero_words_are_those_of_seed_0() {
+        let seed_0 = Xoshiro256PlusPlus::seed_from_u64(0);
+        assert_eq!(Xoshiro256PlusPlus::from_words([0; 4]), seed_0);
+        assert_eq!(Xoshiro256PlusPlus::from_rng(Zeros).ok(), Some(seed_0));
+        for place in 0..4 {
+            let mut words = [0; 4];
+            words[place] = 1;
+            assert_eq!(Xoshiro256PlusPlus::from_words(words).words(), words);
+        }
+    }
+
+    /// A parent whose outputs are all zero.
+    struct Zeros;
+
+    impl RngCore for Zeros {
+        fn next_u64(&mut self) -> u64 {
+            0
+        }
     }
 }

@@ -4,12 +4,12 @@ use borrow.Author.Needs.{needs}
 use Rattle.parts.proofs.blank_toggler.Statement.{statement}
 use Rattle.parts.proofs.blank_toggler.Tie as tie
 
-zero-words-requires : tie.Need-zero-words-requires
-zero-words-requires c κs = search needs
+blank-words-requires : tie.Need-blank-words-requires
+blank-words-requires c κs = search needs
 
 returns : tie.Need-returns
 unfolding ofBits
-returns c = rw (c .zero-words .ensures)
+returns c = rw (c .blank-words .ensures)
 
 pub blank-toggler-spec : {M : Type 1} → statement M
-blank-toggler-spec = tie.close (tie.spec zero-words-requires returns)
+blank-toggler-spec = tie.close (tie.spec blank-words-requires returns)

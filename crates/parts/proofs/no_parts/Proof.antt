@@ -4,8 +4,8 @@ use borrow.Author.Needs.{needs}
 use Rattle.parts.proofs.no_parts.Statement.{statement}
 use Rattle.parts.proofs.no_parts.Tie as tie
 
-zero-words-requires : tie.Need-zero-words-requires
-zero-words-requires c κs = search needs
+blank-words-requires : tie.Need-blank-words-requires
+blank-words-requires c κs = search needs
 
 new-sender-requires : tie.Need-new-sender-requires
 new-sender-requires c κs = search needs
@@ -19,9 +19,9 @@ returns c =
     rw (
       c .blank-toggler .ensures,
       c .before .new-sender .ensures,
-      c .before .before .zero-words .ensures,
+      c .before .before .blank-words .ensures,
     )
 
 pub no-parts-spec : {M : Type 1} → statement M
 no-parts-spec =
-    tie.close (tie.spec zero-words-requires new-sender-requires blank-toggler-requires returns)
+    tie.close (tie.spec blank-words-requires new-sender-requires blank-toggler-requires returns)

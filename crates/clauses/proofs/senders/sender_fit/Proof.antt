@@ -55,11 +55,26 @@ returns-5 : tie.Need-returns-5
 unfolding senderTest
 returns-5 c =
     rw (
-      c .agree .ensures,
-      passed (c .before .before .before .before .before .before .before .before .before .state-fit .ensures) (c .before .before .before .before .before .before .before .before .if1 .left),
-      passed (c .before .before .before .before .before .before .time-held .ensures) (c .before .before .before .before .before .if2 .left),
-      passed (c .before .before .before .before .meter-fit .ensures) (c .before .before .before .if3 .left),
-      passed (c .before .before .sent-count-fit .ensures) (c .before .if4 .left),
+      passed (c .before .before .before .before .before .before .before .before .before .before .state-fit .ensures) (c .before .before .before .before .before .before .before .before .before .if1 .left),
+      passed (c .before .before .before .before .before .before .before .time-held .ensures) (c .before .before .before .before .before .before .if2 .left),
+      passed (c .before .before .before .before .before .meter-fit .ensures) (c .before .before .before .before .if3 .left),
+      passed (c .before .before .before .sent-count-fit .ensures) (c .before .before .if4 .left),
+      failed (c .before .agree .ensures) (c .if5 .taken),
+    )
+
+words-fit-requires : tie.Need-words-fit-requires
+words-fit-requires c κs = search needs
+
+returns-6 : tie.Need-returns-6
+unfolding senderTest
+returns-6 c =
+    rw (
+      c .words-fit .ensures,
+      passed (c .before .before .before .before .before .before .before .before .before .before .before .before .before .state-fit .ensures) (c .before .before .before .before .before .before .before .before .before .before .before .before .if1 .left),
+      passed (c .before .before .before .before .before .before .before .before .before .before .time-held .ensures) (c .before .before .before .before .before .before .before .before .before .if2 .left),
+      passed (c .before .before .before .before .before .before .before .before .meter-fit .ensures) (c .before .before .before .before .before .before .before .if3 .left),
+      passed (c .before .before .before .before .before .before .sent-count-fit .ensures) (c .before .before .before .before .before .if4 .left),
+      passed (c .before .before .before .before .agree .ensures) (c .before .before .before .if5 .left),
     )
 
 pub sender-fit-spec : {M : Type 1} → statement M
@@ -75,4 +90,6 @@ sender-fit-spec =
     sent-count-fit-requires
     returns-4
     agree-requires
-    returns-5)
+    returns-5
+    words-fit-requires
+    returns-6)

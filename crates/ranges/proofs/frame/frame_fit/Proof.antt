@@ -74,18 +74,35 @@ returns-5 : tie.Need-returns-5
 unfolding frameTest ofBits
 returns-5 c =
     rw (
-      c .time-held .ensures,
-      ← c .before .before .before .before .before .before .before .before .before .before .before .before .before .before .before .network-stop .ensures,
-      eq-eqb _ _ (c .before .before .before .before .before .before .before .before .before .before .before .before .before .before .if1 .left),
-      passed (c .before .before .before .before .before .before .before .before .before .before .before .before .before .rings-fit .ensures) (c .before .before .before .before .before .before .before .before .before .before .before .before .if2 .left),
-      eq-eqb _ _ (c .before .before .before .before .before .before .before .if3 .left),
-      c .before .before .before .before .if4 .taken,
-      passed (c .before .before .before .clock-held .ensures) (c .before .before .if5 .left),
+      ← c .before .before .before .before .before .before .before .before .before .before .before .before .before .before .before .before .network-stop .ensures,
+      eq-eqb _ _ (c .before .before .before .before .before .before .before .before .before .before .before .before .before .before .before .if1 .left),
+      passed (c .before .before .before .before .before .before .before .before .before .before .before .before .before .before .rings-fit .ensures) (c .before .before .before .before .before .before .before .before .before .before .before .before .before .if2 .left),
+      eq-eqb _ _ (c .before .before .before .before .before .before .before .before .if3 .left),
+      c .before .before .before .before .before .if4 .taken,
+      passed (c .before .before .before .before .clock-held .ensures) (c .before .before .before .if5 .left),
+      failed (c .before .time-held .ensures) (c .if6 .taken),
     )
+
+all-zero-requires : tie.Need-all-zero-requires
+all-zero-requires c κs = search needs
 
 returns-6 : tie.Need-returns-6
 unfolding frameTest ofBits
 returns-6 c =
+    rw (
+      c .all-zero .ensures,
+      ← c .before .before .before .before .before .before .before .before .before .before .before .before .before .before .before .before .before .before .network-stop .ensures,
+      eq-eqb _ _ (c .before .before .before .before .before .before .before .before .before .before .before .before .before .before .before .before .before .if1 .left),
+      passed (c .before .before .before .before .before .before .before .before .before .before .before .before .before .before .before .before .rings-fit .ensures) (c .before .before .before .before .before .before .before .before .before .before .before .before .before .before .before .if2 .left),
+      eq-eqb _ _ (c .before .before .before .before .before .before .before .before .before .before .if3 .left),
+      c .before .before .before .before .before .before .before .if4 .taken,
+      passed (c .before .before .before .before .before .before .clock-held .ensures) (c .before .before .before .before .before .if5 .left),
+      passed (c .before .before .before .time-held .ensures) (c .before .before .if6 .left),
+    )
+
+returns-7 : tie.Need-returns-7
+unfolding frameTest ofBits
+returns-7 c =
     rw (
       ← c .before .before .before .before .before .before .before .before .before .before .before .network-stop .ensures,
       eq-eqb _ _ (c .before .before .before .before .before .before .before .before .before .before .if1 .left),
@@ -108,4 +125,6 @@ frame-fit-spec =
     returns-4
     time-held-requires
     returns-5
-    returns-6)
+    all-zero-requires
+    returns-6
+    returns-7)

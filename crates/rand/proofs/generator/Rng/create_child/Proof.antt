@@ -16,14 +16,14 @@ next-requires-3 c κs = search needs
 next-requires-4 : tie.Need-next-requires-4
 next-requires-4 c κs = search needs
 
-from-words-requires : tie.Need-from-words-requires
-from-words-requires c κs = search needs
+replaced-requires : tie.Need-replaced-requires
+replaced-requires c κs = search needs
 
 returns : tie.Need-returns
 unfolding childOf
 returns c =
     rw (
-      c .from-words .ensures,
+      c .replaced .ensures,
       c .before .before .next4 .ensures,
       c .before .before .before .next3 .ensures,
       c .before .before .before .before .next2 .ensures,
@@ -38,5 +38,5 @@ create-child-spec =
     next-requires-2
     next-requires-3
     next-requires-4
-    from-words-requires
+    replaced-requires
     returns)

@@ -16,18 +16,14 @@ next-requires-3 c κs = search needs
 next-requires-4 : tie.Need-next-requires-4
 next-requires-4 c κs = search needs
 
-from-words-requires : tie.Need-from-words-requires
-from-words-requires c κs = search needs
-
 returns : tie.Need-returns
 unfolding fromSeed
 returns c =
     rw (
-      c .from-words .ensures,
-      c .before .next4 .ensures,
-      c .before .before .next3 .ensures,
-      c .before .before .before .next2 .ensures,
-      c .before .before .before .before .next .ensures,
+      c .next4 .ensures,
+      c .before .next3 .ensures,
+      c .before .before .next2 .ensures,
+      c .before .before .before .next .ensures,
     )
 
 pub from-seed-spec : {M : Type 1} → statement M
@@ -38,5 +34,4 @@ from-seed-spec =
     next-requires-2
     next-requires-3
     next-requires-4
-    from-words-requires
     returns)
