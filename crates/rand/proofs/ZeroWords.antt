@@ -107,14 +107,10 @@ step g e = not-all (movedOn g) (λ z. false≢true (sym e ∙ zeros-all g (step-
 
 -- ---- draws
 
-pub unit-words : (g : Rng) → allZero g ≡ false → allZero (unitOf g .rng) ≡ false
-unfolding unitOf
-unit-words g e = step g e
-
 draw-words : (d : ContinuousDistribution) (g : Rng) → allZero g ≡ false → allZero (drawOf d g .rng) ≡ false
-unfolding drawOf
+unfolding drawOf unitOf
 draw-words (Always v) g e = e
-draw-words (Uniform min max) g e = unit-words g e
+draw-words (Uniform min max) g e = step g e
 
 redraw-words : (tries : ℕ) (d : ContinuousDistribution) (g : Rng) → allZero g ≡ false → allZero (redraw tries d g .rng) ≡ false
 unfolding redraw

@@ -12,7 +12,8 @@ use lib.Ieee.{le}
 use lib.Ieee.Bits.{is-true}
 use Rattle.quantities.specs.Units.{spanOf, rateOf, amountOverRate, spanAfter}
 use Rattle.quantities.proofs.Order.{le-known-r, le-refl}
-use Rattle.rand.proofs.ZeroWords.{unit-words}
+use Rattle.rand.specs.Draws.{unitOf}
+use Rattle.rand.proofs.ZeroWords.{zero-words}
 use Rattle.link.specs.declared.packet.Packet.{Packet}
 use Rattle.link.specs.declared.packet.Transit.{Transit}
 use Rattle.link.specs.declared.link.Line.{Line}
@@ -106,7 +107,7 @@ module _ (s : Simulation) (b : Body s) where
           moving-ok = moving-now .1;
           order = rising-rest (frontOf s) behind (subst (λ (l : List Transit). rising l ≡ true) split-moving (b .line .order));
           free = b .line .free;
-          words = unit-words (s .line .rng) (b .line .words);
+          words = unfold unitOf in zero-words .step (s .line .rng) (b .line .words);
         })
         (λ i h. omega (arith, b .records i h, fewer-move i))
 
