@@ -26,7 +26,10 @@ xor-same a b e = omega (arith, xor-add-and a b, and-le-l a b, and-le-r a b)
 
 or-zeros : (a b : ℕ) → bitOr a b ≡ 0 → (a ≡ 0) × (b ≡ 0)
 or-zeros a b e =
-    (omega (arith, or-add-and a b, and-le-l a b, and-le-r a b), omega (arith, or-add-and a b, and-le-l a b, and-le-r a b))
+    let sum = or-add-and a b in
+    let left = and-le-l a b in
+    let right = and-le-r a b in
+    (omega (arith, sum, right), omega (arith, sum, left))
 
 -- a rotation loses no place
 rotl-zero : (x : ℕ) → rotlOf x 45 ≡ 0 → x ≡ 0
