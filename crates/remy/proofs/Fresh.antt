@@ -112,12 +112,12 @@ redraw-within (suc tries) d h g =
 
 -- ---- the parts as they are made
 
--- a sender that is off and has sent nothing
+-- a sender that is off and has sent nothing, with words that are not all zero
 pub record Off (x : LossySender) : Type 0 where
   pub off : x ≡ newSender (x .rng)
   pub words : allZero (x .rng) ≡ false
 
--- a toggler that is off, with a toggle in 0..2^20
+-- a toggler that is off, with a toggle in 0..2^20 and words that are not all zero
 pub record Waits (t : Toggler) : Type 0 where
   pub off : t .enabled ≡ false
   pub soon : within (t .«next_toggle» .0 .0) (power 20)
