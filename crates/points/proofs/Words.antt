@@ -1,11 +1,37 @@
--- The points of four zero words: computed, but for the last. Assumes nothing.
-use mathlib.Core.Path.{refl}
+-- The points of four zero words: computed, or read off `ZeroWords`. Assumes nothing.
+use mathlib.Core.Path.{_≡_, refl, sym, ap, _∙_}
+use mathlib.Core.Bool.{false, false≢true}
+use mathlib.Core.List.{[], _∷_}
+use Prim.Native.Nat.{ℕ, _+_, _≤_}
+use native.Mathlib.Omega.{arith}
+use Rattle.rand.specs.declared.generator.Rng.{Rng}
+use Rattle.rand.specs.Generator.{wordsOf, allZero, fromWords}
 use Rattle.rand.proofs.ZeroWords.{zero-words}
 use Rattle.remy.proofs.Opened.{draws}
 use Rattle.points.specs.Points.{Hold, outputs}
-use Rattle.points.specs.Words.{words}
+use Rattle.points.specs.Words.{zeros, words}
 use Rattle.points.proofs.Claims.{_and_}
+
+-- where the test finds a word that is not zero, the generator is not that of four zeros
+apart : (g : Rng) → allZero g ≡ false → g ≡ zeros → ⊥
+unfolding allZero
+apart g e same = false≢true (sym e ∙ ap allZero same)
+
+taken : (a b c d : ℕ) → 1 ≤ a + b + c + d → wordsOf (fromWords a b c d) ≡ a ∷ b ∷ c ∷ d ∷ []
+taken a b c d some =
+    zero-words .others a b c d
+    (λ e. let z0 : a ≡ 0 = cc in let z1 : b ≡ 0 = cc in let z2 : c ≡ 0 = cc in let z3 : d ≡ 0 = cc in omega arith)
 
 pub words-hold : Hold words
 unfolding draws outputs
-words-hold = refl and refl and refl and refl and refl and refl and refl and refl and refl and refl and refl and refl and zero-words and tt
+words-hold =
+    refl and refl and refl
+    and refl and (λ n. ap (outputs n) (zero-words .zeros))
+    and refl and taken
+    and refl and refl and refl
+    and (λ n. apart _ (zero-words .seed n))
+    and (λ a b c d. apart _ (zero-words .given a b c d))
+    and (λ g. apart _ (zero-words .child g))
+    and (λ g e. apart _ (zero-words .step g e))
+    and (λ d g e. apart _ (zero-words .redrawn d g e))
+    and tt
