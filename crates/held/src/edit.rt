@@ -172,7 +172,7 @@ fn state_at(text: &[u8], at: usize) -> SenderState {
     })
 }
 
-// G i on next-toggle, and the generator's four words
+// G i on next-toggle, and the generator's four words, of which four zeros are replaced
 fn toggler(text: &[u8], at: usize, st: Simulation) -> Simulation {
     let mut out = st;
     let i = size(text, at, 0);

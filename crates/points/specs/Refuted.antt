@@ -12,12 +12,10 @@ use Rattle.quantities.specs.declared.time.OptionTime.the-variants.{None, Some}
 use Rattle.quantities.specs.Doubles.{zeroF, power}
 use Rattle.quantities.specs.Units.{spanOf, timeOf, amountOf, rateOf, amountOverRate, spanAfter}
 use Rattle.rand.specs.declared.distribution.ContinuousDistribution.the-variants.{Always}
-use Rattle.rand.specs.Generator.{fromWords}
 use Rattle.meters.specs.Meter.{newMeter}
 use Rattle.link.specs.declared.link.Limit.{Limit}
 use Rattle.link.specs.declared.link.Limit.the-variants as Limit
 use Rattle.sender.specs.declared.lossy.Policy.the-variants.{Held}
-use Rattle.sender.specs.declared.lossy.SenderState.the-variants as State
 use Rattle.toggler.specs.Queue.{noQueued}
 use Rattle.remy.specs.declared.network.RemyNetwork.{RemyNetwork}
 use Rattle.remy.specs.declared.simulation.Mark.{Mark}
@@ -29,13 +27,13 @@ use Rattle.remy.specs.declared.simulation.Simulation.{Simulation}
 use Rattle.remy.specs.declared.simulation.TickRecord.{TickRecord}
 use Rattle.remy.specs.Network.{between}
 use Rattle.remy.specs.State.{senderAt, meterAt, waitingItems, onLineItems, onLinePackets, senderBits, packetBits, totalBits, withLine, withWaiting, withOnLine, withMeter}
-use Rattle.remy.specs.Build.{newSender, blankWords, blankPacket, blankTransit, blankToggler, buildOf}
+use Rattle.remy.specs.Build.{blankPacket, blankTransit, buildOf}
 use Rattle.remy.specs.Tick.{tickOf}
 use Rattle.remy.specs.History.{Call, tick, ticks, after, history, Fresh, idOf, ids, times, admissions, droppedFull, lost, counted, old, ignored}
 use Rattle.remy.specs.History.{starts as startsIn, leaves as leavesIn}
 use Rattle.remy.specs.Account.{total, ofSender, isPacket, everywhere, Spaced, Limited, Account}
 use Rattle.points.specs.Worked.{none}
-use Rattle.points.specs.Unfit.{three, toggleTime, packetOf, transitOf, withNetwork}
+use Rattle.points.specs.Unfit.{three, toggleTime, packetOf, transitOf, linkSampled, onSince1, onUntil101, withNetwork}
 
 -- ---- a network, a history and a last state, and what each clause of the account says of them
 
@@ -164,7 +162,7 @@ tenth =
             «buffer_contains» = amountOf 16;
             waiting = record { start = 3; count = 2 };
             «on_line» = record { start = 1; count = 2 };
-            rng = fromWords 14956314531195876544 7576440072486442806 6053824538967488443 6254198100547973758;
+            rng = linkSampled;
           };
       waiting =
           packetOf 0 1 (power 0)
@@ -178,20 +176,8 @@ tenth =
           ∷ transitOf (packetOf 0 2 (power 0)) (power 2)
           ∷ transitOf (packetOf 0 3 (power 0)) (fin false 5 (pos 0))
           ∷ replicate 509 blankTransit;
-      senders =
-          record {
-            «packets_sent» = 6;
-            state = State.Enabled (record { started = timeOf (power 0); «greatest_ack» = 1; cwnd = 6; timer = None });
-            rng = fromWords 3406718355780431780 10892412867582108485 18204613561675945223 9655336933892813345;
-          }
-          ∷ replicate 15 (newSender blankWords);
-      togglers =
-          record {
-            enabled = true;
-            «next_toggle» = timeOf toggleTime;
-            rng = fromWords 1781989159761824720 2477283028068920342 16978024111547606601 6336475467619303347;
-          }
-          ∷ replicate 15 blankToggler;
+      senders = onSince1 6 6;
+      togglers = onUntil101;
       meters =
           record { «total_time» = spanOf zeroF; «current_start» = Some (timeOf (power 0)); total = amountOf 8; records = 1; «rtt_sum» = spanOf (power 1) }
           ∷ replicate 15 newMeter;

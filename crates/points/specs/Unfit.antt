@@ -23,6 +23,8 @@ use Rattle.sender.specs.declared.lossy.Policy.the-variants.{Held, Timed}
 use Rattle.sender.specs.declared.lossy.Enabled.{Enabled}
 use Rattle.sender.specs.declared.lossy.SenderState.{SenderState}
 use Rattle.sender.specs.declared.lossy.SenderState.the-variants as State
+use Rattle.sender.specs.declared.lossy.LossySender.{LossySender}
+use Rattle.toggler.specs.declared.toggler.Toggler.{Toggler}
 use Rattle.link.specs.Ring.{places}
 use Rattle.toggler.specs.Queue.{queuePlaces, noQueued}
 use Rattle.remy.specs.declared.network.RemyNetwork.{RemyNetwork}
@@ -55,6 +57,25 @@ packetOf sender seq sent = record { sender = sender; seq = seq; «sent_time» = 
 abbrev pub transitOf : Packet → Float → Transit
 transitOf p due = record { packet = p; due = timeOf due }
 
+-- the generators of seed 1: the link's after one sample, the sender's and the toggler's
+abbrev pub linkSampled : Rng
+linkSampled = fromWords 14956314531195876544 7576440072486442806 6053824538967488443 6254198100547973758
+
+abbrev pub ownWords : Rng
+ownWords = fromWords 3406718355780431780 10892412867582108485 18204613561675945223 9655336933892813345
+
+abbrev pub toggleWords : Rng
+toggleWords = fromWords 1781989159761824720 2477283028068920342 16978024111547606601 6336475467619303347
+
+-- the 16 senders, of which the first is on since 1 with 0:1 counted, has sent so many and has this window; the 16 togglers, of which the first is on until 101
+abbrev pub onSince1 : ℕ → ℕ → List LossySender
+onSince1 sent window =
+    record { «packets_sent» = sent; state = State.Enabled (record { started = timeOf (power 0); «greatest_ack» = 1; cwnd = window; timer = None }); rng = ownWords }
+    ∷ replicate 15 (newSender blankWords)
+
+abbrev pub onUntil101 : List Toggler
+onUntil101 = record { enabled = true; «next_toggle» = timeOf toggleTime; rng = toggleWords } ∷ replicate 15 blankToggler
+
 -- clock 3, the link next: 0:4 waits and may start at 3, 0:2 is on the line and due at 3; 0:1 is counted, and the sender is on until 101
 unfoldable pub busy : Simulation
 busy =
@@ -67,24 +88,12 @@ busy =
             «buffer_contains» = amountOf 8;
             waiting = record { start = 2; count = 1 };
             «on_line» = record { start = 1; count = 1 };
-            rng = fromWords 14956314531195876544 7576440072486442806 6053824538967488443 6254198100547973758;
+            rng = linkSampled;
           };
       waiting = packetOf 0 1 (power 0) ∷ packetOf 0 2 (power 0) ∷ packetOf 0 4 (power 1) ∷ replicate 509 blankPacket;
       «on_line» = transitOf (packetOf 0 1 (power 0)) (power 1) ∷ transitOf (packetOf 0 2 (power 0)) three ∷ replicate 510 blankTransit;
-      senders =
-          record {
-            «packets_sent» = 4;
-            state = State.Enabled (record { started = timeOf (power 0); «greatest_ack» = 1; cwnd = 3; timer = None });
-            rng = fromWords 3406718355780431780 10892412867582108485 18204613561675945223 9655336933892813345;
-          }
-          ∷ replicate 15 (newSender blankWords);
-      togglers =
-          record {
-            enabled = true;
-            «next_toggle» = timeOf toggleTime;
-            rng = fromWords 1781989159761824720 2477283028068920342 16978024111547606601 6336475467619303347;
-          }
-          ∷ replicate 15 blankToggler;
+      senders = onSince1 4 3;
+      togglers = onUntil101;
       meters =
           record { «total_time» = spanOf zeroF; «current_start» = Some (timeOf (power 0)); total = amountOf 8; records = 1; «rtt_sum» = spanOf (power 0) }
           ∷ replicate 15 newMeter;
@@ -100,16 +109,8 @@ quiet =
       line = newLine (fromWords 14971601782005023387 13781649495232077965 1847458086238483744 13765271635752736470);
       waiting = replicate 512 blankPacket;
       «on_line» = replicate 512 blankTransit;
-      senders =
-          newSender (fromWords 3406718355780431780 10892412867582108485 18204613561675945223 9655336933892813345)
-          ∷ replicate 15 (newSender blankWords);
-      togglers =
-          record {
-            enabled = false;
-            «next_toggle» = timeOf (power 0);
-            rng = fromWords 1781989159761824720 2477283028068920342 16978024111547606601 6336475467619303347;
-          }
-          ∷ replicate 15 blankToggler;
+      senders = newSender ownWords ∷ replicate 15 (newSender blankWords);
+      togglers = record { enabled = false; «next_toggle» = timeOf (power 0); rng = toggleWords } ∷ replicate 15 blankToggler;
       meters = replicate 16 newMeter;
       queue = replicate queuePlaces noQueued;
     }
