@@ -19,8 +19,8 @@ use Rattle.remy.specs.declared.simulation.Simulation.{Simulation}
 use Rattle.remy.specs.Network.{networkStop}
 use Rattle.remy.specs.State.{noPacket, roleOf, senderAt, togglerAt, meterAt, queuedAt, waitingItems, onLineItems, onLinePackets}
 use Rattle.remy.specs.Queue.{nextTimeOf}
-use Rattle.remy.specs.Fit.{every, upTo, networkFit, ringsFit, packetFit, packetsFit, bitsFit, clockFit, held, heldIfAny, heldSender, heldQueued, isNext, heldTimesFit, sinceStart, startedFit, meterStartFit, pastFit, totalsFit, sumsFit, countOf, recordsFit, rising, dueFit, ackFit, countsFit, windowsFit, timersFit, togglersAgree, metersAgree, meterBitsFit, sameTime, nextFit, queueFit, wordsFit, fit}
-use Rattle.remy.proofs.Facts.{FitState, fit-state, both-l, both-r, both-i, upTo-at}
+use Rattle.remy.specs.Fit.{every, upTo, networkFit, ringsFit, packetFit, packetsFit, bitsFit, clockFit, held, heldIfAny, heldSender, heldQueued, isNext, heldTimesFit, sinceStart, startedFit, meterStartFit, pastFit, totalsFit, sumsFit, countOf, recordsFit, rising, dueFit, ackFit, countsFit, windowsFit, timersFit, togglersAgree, metersAgree, meterBitsFit, sameTime, nextFit, queueFit, fit}
+use Rattle.remy.proofs.Facts.{FitState, fit-state, FitWords, words-apart, words-joined, both-l, both-r, both-i, upTo-at}
 use Rattle.remy.specs.declared.simulation.Next.the-variants as Next
 use Rattle.ranges.specs.Frame.{ringsTest, clockHeld, frameTest}
 use Rattle.clauses.specs.Tests.{packetTest, transitTest, waitingTest, onLineTest, dueTest, packetsTest, firstDue, waitingOf, onLineOf, Counts, sendersTest, partTime, placeTest, emptyTest, nextTest, placesTest, queueTest}
@@ -298,21 +298,6 @@ module _ (s : Simulation) where
       (each (λ i. startedFit s (senderAt s i .state))) (each (λ i. meterStartFit s (meterAt s i .«current_start»))) e in
       record { waiting = x .0; on-line = x .1; started = x .2; starts = x .3 }
 
-  record Words : Type 0 where
-    link : not (allZero (s .line .rng)) ≡ true
-    senders : each (λ i. not (allZero (senderAt s i .rng))) ≡ true
-    togglers : each (λ i. not (allZero (togglerAt s i .rng))) ≡ true
-
-  to-words : Words → wordsFit s ≡ true
-  unfolding wordsFit
-  to-words w = both-i _ _ (both-i _ _ (w .link) (w .senders)) (w .togglers)
-
-  from-words : wordsFit s ≡ true → Words
-  unfolding wordsFit
-  from-words e =
-      let x = and-3 (not (allZero (s .line .rng))) (each (λ i. not (allZero (senderAt s i .rng)))) (each (λ i. not (allZero (togglerAt s i .rng)))) e in
-      record { link = x .0; senders = x .1; togglers = x .2 }
-
   packets-parts : packetsFit s ≡ (every (packetFit s) (waitingItems s) && every (packetFit s) (onLinePackets s))
   unfolding packetsFit
   packets-parts = refl
@@ -346,7 +331,7 @@ module _ (s : Simulation) where
         upTo-i n _ (λ i h. c i h .bits),
       )
 
-  each-sender : FitState s → HeldTimes → Past → Words → (i : ℕ) → i < s .network .senders → SenderClauses s i (waits-of i) (moves-of i)
+  each-sender : FitState s → HeldTimes → Past → FitWords s → (i : ℕ) → i < s .network .senders → SenderClauses s i (waits-of i) (moves-of i)
   unfolding totalsFit sumsFit recordsFit countsFit windowsFit timersFit togglersAgree metersAgree meterBitsFit
   each-sender f t p w i h =
       let n = s .network .senders in
@@ -419,7 +404,7 @@ module _ (s : Simulation) where
         meters = x .7;
         meter-bits = x .8;
         queue = queue-parts ∙ both-i _ _ (q .0) (places-own queuePlaces (q .1));
-        words = to-words (record { link = f .words; senders = upTo-i n _ (λ i h. c i h .words); togglers = upTo-i n _ (λ i h. c i h .toggler-words) });
+        words = words-joined s (record { link = f .words; senders = upTo-i n _ (λ i h. c i h .words); togglers = upTo-i n _ (λ i h. c i h .toggler-words) });
       }
 
   fit-of : FitState s → fit s ≡ true
@@ -451,7 +436,7 @@ module _ (s : Simulation) where
   tests-of f =
       let t = from-held (f .held) in
       let p = from-past (f .past) in
-      let g = from-words (f .words) in
+      let g = words-apart s (f .words) in
       let w = and-2 (every (packetFit s) (waitingItems s)) (every (packetFit s) (onLinePackets s)) (sym packets-parts ∙ f .packets) in
       let q = and-2 (nextFit s (s .head .next)) (upTo queuePlaces place-own) (sym queue-parts ∙ f .queue) in
       both-i (frame && packets && senders) queue

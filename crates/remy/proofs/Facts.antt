@@ -1,6 +1,6 @@
 -- What the fit test says where it passes: each clause by name, and at each sender. Assumes nothing.
 use mathlib.Core.Path.{_≡_, refl, sym, subst}
-use mathlib.Core.Bool.{Bool, true, false, _&&_, false≢true}
+use mathlib.Core.Bool.{Bool, true, false, not, _&&_, false≢true}
 use mathlib.Core.List.{List, _∷_}
 use Prim.Native.Nat.{ℕ, zero, suc, _≤_, _<_}
 use native.Mathlib.Nat.{not-suc-le-zero, eq-or-lt-of-le, le-of-suc-le-suc}
@@ -10,9 +10,11 @@ use lib.Dec.{T, leb}
 use lib.Ieee.{Float, le}
 use lib.Ieee.Bits.{is-true}
 use Rattle.quantities.specs.Doubles.{inRange}
+use Rattle.rand.specs.Generator.{allZero}
 use Rattle.remy.specs.declared.simulation.Simulation.{Simulation}
 use Rattle.remy.specs.Network.{between}
-use Rattle.remy.specs.Fit.{every, upTo, networkFit, ringsFit, packetsFit, bitsFit, clockFit, heldTimesFit, pastFit, totalsFit, sumsFit, recordsFit, dueFit, countsFit, windowsFit, timersFit, togglersAgree, metersAgree, meterBitsFit, queueFit, wordsFit, fit}
+use Rattle.remy.specs.State.{senderAt, togglerAt}
+use Rattle.remy.specs.Fit.{every, upTo, eachSender, networkFit, ringsFit, packetsFit, bitsFit, clockFit, heldTimesFit, pastFit, totalsFit, sumsFit, recordsFit, dueFit, countsFit, windowsFit, timersFit, togglersAgree, metersAgree, meterBitsFit, queueFit, wordsFit, fit}
 
 -- ---- conjunctions
 
@@ -143,3 +145,24 @@ fit-state s all =
       queue = both-r to-meter-bits (queueFit s) by-queue;
       words = both-r to-queue (wordsFit s) all;
     }
+
+-- ---- the clause on words, taken apart and joined
+
+pub record FitWords (s : Simulation) : Type 0 where
+  pub link : not (allZero (s .line .rng)) ≡ true
+  pub senders : eachSender s (λ i. not (allZero (senderAt s i .rng))) ≡ true
+  pub togglers : eachSender s (λ i. not (allZero (togglerAt s i .rng))) ≡ true
+
+module _ (s : Simulation) where
+  pub words-apart : wordsFit s ≡ true → FitWords s
+  unfolding wordsFit
+  words-apart e =
+      let link = not (allZero (s .line .rng)) in
+      let senders = eachSender s (λ i. not (allZero (senderAt s i .rng))) in
+      let togglers = eachSender s (λ i. not (allZero (togglerAt s i .rng))) in
+      let to-senders = both-l (link && senders) togglers e in
+      record { link = both-l link senders to-senders; senders = both-r link senders to-senders; togglers = both-r (link && senders) togglers e }
+
+  pub words-joined : FitWords s → wordsFit s ≡ true
+  unfolding wordsFit
+  words-joined w = both-i _ _ (both-i _ _ (w .link) (w .senders)) (w .togglers)

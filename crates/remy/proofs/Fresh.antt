@@ -45,7 +45,7 @@ use Rattle.remy.specs.State.{Role, link, sender, toggler, nobody, roleOf
 use Rattle.remy.specs.Queue.{ownTime, nextTimeOf, partOf, headOf, removed, picked}
 use Rattle.remy.specs.Build.{newLine, newSender, Parts, noParts, populate, unqueued, ownTimes, queuedAll, notBuilt, buildFrom, buildOf}
 use Rattle.remy.specs.Fit.{upTo, eachSender, held, heldIfAny, isIdle, heldSender, heldQueued, isNext, startedFit, meterStartFit, sameTime, nextFit, networkFit, ringsFit, packetsFit, bitsFit, clockFit, heldTimesFit, pastFit, totalsFit, sumsFit, recordsFit, dueFit, countsFit, windowsFit, timersFit, togglersAgree, metersAgree, meterBitsFit, queueFit, wordsFit, fit}
-use Rattle.remy.proofs.Facts.{both-l, both-r, holds}
+use Rattle.remy.proofs.Facts.{both-l, both-r, holds, words-joined}
 use Rattle.remy.proofs.Networks.{fit-network, few-senders}
 use Rattle.remy.proofs.Lists.{All}
 use Rattle.remy.proofs.Kept.{at-set}
@@ -271,11 +271,13 @@ module _ (s : Simulation) (b : Blank s) where
   meter-bits-fit = upTo-intro _ _ (λ i h. rw (b .meters i h, zero-mul))
 
   words-fit : wordsFit s ≡ true
-  unfolding wordsFit
   words-fit =
-      let senders : eachSender s (λ i. not (allZero (senderAt s i .rng))) ≡ true = upTo-intro _ _ (λ i h. rw (b .senders i h .words)) in
-      let togglers : eachSender s (λ i. not (allZero (togglerAt s i .rng))) ≡ true = upTo-intro _ _ (λ i h. rw (b .togglers i h .words)) in
-      rw (senders, togglers, b .line, b .words)
+      words-joined s
+      (record {
+        link = rw (b .line, b .words);
+        senders = upTo-intro _ _ (λ i h. rw (b .senders i h .words));
+        togglers = upTo-intro _ _ (λ i h. rw (b .togglers i h .words));
+      })
 
   past-fit : pastFit s ≡ true
   unfolding pastFit

@@ -12,7 +12,6 @@ use Rattle.quantities.specs.declared.time.OptionTime.{OptionTime}
 use Rattle.quantities.specs.declared.time.OptionTime.the-variants.{None, Some}
 use Rattle.quantities.specs.Doubles.{zeroF, power}
 use Rattle.quantities.proofs.Order.{le-trans}
-use Rattle.rand.specs.Generator.{allZero}
 use Rattle.meters.specs.Meter.{isOn, totalFit, sumFit}
 use Rattle.link.specs.declared.packet.Packet.{Packet}
 use Rattle.link.specs.declared.packet.Transit.{Transit}
@@ -27,7 +26,7 @@ use Rattle.remy.specs.Network.{between, networkStop}
 use Rattle.remy.specs.State.{senderAt, togglerAt, meterAt, queuedAt, waitingItems, onLineItems, onLinePackets, packetBits, totalBits}
 use Rattle.remy.specs.Queue.{nextTimeOf}
 use Rattle.remy.specs.Fit.{every, upTo, eachSender, packetFit, held, heldIfAny, heldSender, heldQueued, isNext, sinceStart, startedFit, meterStartFit, countOf, ackFit, heldWindowFit, isTimed, timerFit, senderOn, sameTime, nextFit, networkFit, ringsFit, packetsFit, bitsFit, clockFit, heldTimesFit, pastFit, totalsFit, sumsFit, recordsFit, dueFit, countsFit, windowsFit, timersFit, togglersAgree, metersAgree, meterBitsFit, queueFit, wordsFit, fit}
-use Rattle.remy.proofs.Facts.{both-i, range-i}
+use Rattle.remy.proofs.Facts.{both-i, range-i, words-joined}
 use Rattle.remy.proofs.Fresh.{or-else, upTo-intro, fit-intro}
 use Rattle.steady.specs.Steady.{dueSoon, steady}
 use Rattle.steady.proofs.Facts.{Past, PastIfAny, PacketOk, TransitOk, TimerIfAny, StateOk, PartOk, sentOf, Body, Between}
@@ -211,11 +210,9 @@ module _ (s : Simulation) (b : Body s) where
       (λ i o. eq-eqb (meterAt s i .total .0) (meterAt s i .records * s .network .bits) (o .meter .bits))
 
   words-fit : wordsFit s ≡ true
-  unfolding wordsFit
   words-fit =
-      let senders : eachSender s (λ i. not (allZero (senderAt s i .rng))) ≡ true = each-part _ (λ i o. ap not (o .words)) in
-      let togglers : eachSender s (λ i. not (allZero (togglerAt s i .rng))) ≡ true = each-part _ (λ i o. ap not (o .toggler-words)) in
-      rw (b .line .words, senders, togglers)
+      words-joined s
+      (record { link = ap not (b .line .words); senders = each-part _ (λ i o. ap not (o .words)); togglers = each-part _ (λ i o. ap not (o .toggler-words)) })
 
   due-soon : every (dueSoon s) (onLineItems s) ≡ true
   due-soon = each-transit (dueSoon s) (λ x m. is-true (dueSoon s x) (m .soon))

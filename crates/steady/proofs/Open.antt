@@ -32,8 +32,8 @@ use Rattle.remy.specs.declared.simulation.Simulation.{Simulation}
 use Rattle.remy.specs.Network.{between, networkStop}
 use Rattle.remy.specs.State.{Role, link, sender, toggler, roleOf, noTransit, senderAt, togglerAt, meterAt, queuedAt, frontOf, waitingItems, onLineItems, onLinePackets, packetBits, totalBits}
 use Rattle.remy.specs.Queue.{ownTime, nextTimeOf, partOf}
-use Rattle.remy.specs.Fit.{every, upTo, eachSender, packetFit, held, heldIfAny, isIdle, heldSender, heldQueued, isNext, sinceStart, startedFit, meterStartFit, countOf, rising, ackFit, heldWindowFit, isTimed, timerFit, senderOn, sameTime, nextFit, networkFit, packetsFit, bitsFit, clockFit, totalsFit, sumsFit, recordsFit, dueFit, countsFit, windowsFit, timersFit, togglersAgree, metersAgree, meterBitsFit, queueFit, wordsFit, fit}
-use Rattle.remy.proofs.Facts.{both-l, both-r, holds, range-low, range-high, between-low, between-high, upTo-at, FitState, fit-state}
+use Rattle.remy.specs.Fit.{every, upTo, eachSender, packetFit, held, heldIfAny, isIdle, heldSender, heldQueued, isNext, sinceStart, startedFit, meterStartFit, countOf, rising, ackFit, heldWindowFit, isTimed, timerFit, senderOn, sameTime, nextFit, networkFit, packetsFit, bitsFit, clockFit, totalsFit, sumsFit, recordsFit, dueFit, countsFit, windowsFit, timersFit, togglersAgree, metersAgree, meterBitsFit, queueFit, fit}
+use Rattle.remy.proofs.Facts.{both-l, both-r, holds, range-low, range-high, between-low, between-high, upTo-at, FitState, fit-state, FitWords, words-apart}
 use Rattle.remy.proofs.Networks.{fit-network, few-senders}
 use Rattle.remy.proofs.Steps.{cond-elim}
 use Rattle.remy.proofs.Roles.{Real, role-of, part-inside}
@@ -41,7 +41,7 @@ use Rattle.remy.proofs.Lists.{All, all-unmapped}
 use Rattle.remy.proofs.Front.{rings}
 use Rattle.remy.specs.HeldTimes.{Full}
 use Rattle.steady.specs.Steady.{dueSoon, steady}
-use Rattle.steady.proofs.Facts.{NotAfter, Held, Past, PastIfAny, PacketOk, TransitOk, LineOk, TimerIfAny, StateOk, MeterOk, PartOk, Words, sentOf, Body, QueueBut, Between}
+use Rattle.steady.proofs.Facts.{NotAfter, Held, Past, PastIfAny, PacketOk, TransitOk, LineOk, TimerIfAny, StateOk, MeterOk, PartOk, sentOf, Body, QueueBut, Between}
 use Rattle.steady.proofs.Clauses.{HeldTimes, held-times, PastTimes, past-times}
 use Rattle.steady.proofs.Lists.{all-with, every-all}
 use Rattle.steady.proofs.Ahead.{HeldIfAny, FromIfAny, ahead-now, ahead-latest, queued-ahead, from-same, from-right}
@@ -83,6 +83,9 @@ module _ (s : Simulation) (j : ℕ) (fits : FitState s) (full : Full s) (next : 
 
   pasts : PastTimes s
   pasts = past-times s (fits .past)
+
+  words : FitWords s
+  words = words-apart s (fits .words)
 
   accepted : networkStop (s .network) ≡ 0
   unfolding networkFit
@@ -195,21 +198,6 @@ module _ (s : Simulation) (j : ℕ) (fits : FitState s) (full : Full s) (next : 
       all-with (λ p. packetFit s p ≡ true) (λ p. sinceStart s (p .«sent_time») ≡ true) (PacketOk (s .network .senders) (sentOf s) (s .head .clock)) packet-of ps
       (every-all (packetFit s) ps e) (every-all (λ p. sinceStart s (p .«sent_time»)) ps t)
 
-  -- ---- words
-
-  abbrev senders-words : Bool
-  senders-words = eachSender s (λ i. not (allZero (senderAt s i .rng)))
-
-  abbrev togglers-words : Bool
-  togglers-words = eachSender s (λ i. not (allZero (togglerAt s i .rng)))
-
-  by-senders-words : (not (allZero (s .line .rng)) && senders-words) ≡ true
-  unfolding wordsFit
-  by-senders-words = both-l (not (allZero (s .line .rng)) && senders-words) togglers-words (fits .words)
-
-  link-words : Words (s .line .rng)
-  link-words = not-true (allZero (s .line .rng)) (both-l (not (allZero (s .line .rng))) senders-words by-senders-words)
-
   -- ---- a sender with its toggler and meter
 
   start-of : (o : OptionTime) → meterStartFit s o ≡ true → PastIfAny (s .head .clock) o
@@ -261,7 +249,7 @@ module _ (s : Simulation) (j : ℕ) (fits : FitState s) (full : Full s) (next : 
         }
 
     pub part-ok : PartOk (s .network) (s .head .clock) (senderAt s i) (togglerAt s i) (meterAt s i)
-    unfolding countsFit windowsFit timersFit togglersAgree metersAgree wordsFit
+    unfolding countsFit windowsFit timersFit togglersAgree metersAgree
     part-ok =
         let few-sent = leb (senderAt s i .«packets_sent») 16777216 in
         let few-acked = ackFit (senderAt s i .state) in
@@ -286,10 +274,8 @@ module _ (s : Simulation) (j : ℕ) (fits : FitState s) (full : Full s) (next : 
               (beq-same (senderOn (senderAt s i .state)) (isOn (meterAt s i .«current_start»))
               (at (λ k. Bool·beq (senderOn (senderAt s k .state)) (isOn (meterAt s k .«current_start»))) (fits .meters)));
           meter = meter-ok;
-          words = not-true (allZero (senderAt s i .rng)) (at (λ k. not (allZero (senderAt s k .rng))) (both-r (not (allZero (s .line .rng))) senders-words by-senders-words));
-          toggler-words =
-              not-true (allZero (togglerAt s i .rng))
-              (at (λ k. not (allZero (togglerAt s k .rng))) (both-r (not (allZero (s .line .rng)) && senders-words) togglers-words (fits .words)));
+          words = not-true (allZero (senderAt s i .rng)) (at (λ k. not (allZero (senderAt s k .rng))) (words .senders));
+          toggler-words = not-true (allZero (togglerAt s i .rng)) (at (λ k. not (allZero (togglerAt s k .rng))) (words .togglers));
         }
 
     records-ok : meterAt s i .records + countOf i (waitingItems s) + countOf i (onLinePackets s) ≤ senderAt s i .«packets_sent»
@@ -325,7 +311,7 @@ module _ (s : Simulation) (j : ℕ) (fits : FitState s) (full : Full s) (next : 
               (every-all (dueSoon s) xs soon));
           order = rises;
           free = free-held;
-          words = link-words;
+          words = not-true (allZero (s .line .rng)) (words .link);
         }
 
     body : Body s
