@@ -2,9 +2,11 @@
 """Draw the first ticks of a run as SVG, from the lines that remyline prints.
 
     remyline < description.txt | draw.py --ticks 7 > picture.svg
+    remyline < description.txt | draw.py --ticks 12 --sizes description.txt > picture.svg
 
 A column is a tick: its clock, its part and its mark. Below are the packets that wait and those on
-the line after it, the first to go at the top, and the packet that ended in it.
+the line after it, the first to go at the top, and the packet that ended in it. With --sizes a packet
+is drawn as long as its bits / rate, which a start takes the line for, and the waiting bits are told.
 """
 import argparse
 import struct
@@ -15,6 +17,7 @@ WORDS = {"E": "switched on", "D": "switched off", "T": "timer", "S": "sent, wait
 WAITS, MOVES, GOOD, BAD, OTHER = "#fbe3a6", "#c9defa", "#c8e8c8", "#f6c3c0", "#e0e0e0"
 ENDS = {"F": BAD, "L": BAD, "C": GOOD, "O": OTHER, "I": OTHER}
 LEFT, WIDE, ROW, MOST = 92, 100, 26, 8  # label column, column, height of a packet, packets shown in a stack
+LONG, SHORT, NOTE = WIDE - 28, 26, 17  # the longest packet, the shortest, height of a line of words
 
 
 def fail(words):
@@ -23,6 +26,29 @@ def fail(words):
 
 def part_name(part):
     return "link" if part == 0 else f"{'toggler' if part % 2 == 0 else 'sender'} {(part - 1) // 2}"
+
+
+class Sizes:
+    """The packets' sizes in a description: one for all senders, or one for each."""
+
+    def __init__(self, text):
+        given = dict(line.split("=", 1) for line in text.split())
+        self.each = [int(bits) for bits in given["bits"].split(",")]
+        self.rate = number(given["rate"])
+
+    def bits(self, packet):
+        return self.each[int(packet.split(":")[0]) if len(self.each) > 1 else 0]
+
+    def seconds(self, packet):
+        return self.bits(packet) / self.rate
+
+    def length(self, packet):
+        return max(SHORT, round(LONG * self.bits(packet) / max(self.each)))
+
+
+def number(digits):
+    """The double that these 16 digits are the bits of."""
+    return struct.unpack(">d", bytes.fromhex(digits))[0]
 
 
 def follow(lines, most):
@@ -42,8 +68,7 @@ def follow(lines, most):
             if not waiting or waiting.pop(0) != started:
                 fail(f"{started} starts and is not first of those that wait: these are not the first lines of a run")
             line.append(started)
-        time = struct.unpack(">d", bytes.fromhex(r["time"]))[0]
-        ticks.append((time, int(r["part"]), r["mark"], packet, started, list(waiting), list(line)))
+        ticks.append((number(r["time"]), int(r["part"]), r["mark"], packet, started, list(waiting), list(line)))
     return ticks
 
 
@@ -55,13 +80,14 @@ def words(x, y, text, size=13, weight="normal", anchor="middle", fill="#222"):
     return f'<text x="{x}" y="{y}" font-size="{size}" font-weight="{weight}" text-anchor="{anchor}" fill="{fill}">{text}</text>'
 
 
-def box(x, y, text, fill):
-    return rect(x + 14, y + 2, WIDE - 28, ROW - 4, fill, "#555", ' rx="3"') + words(x + WIDE / 2, y + 17, text)
+def box(x, y, packet, fill, sizes):
+    long = sizes.length(packet) if sizes else LONG
+    return rect(x + 14, y + 2, long, ROW - 4, fill, "#555", ' rx="3"') + words(x + 14 + long / 2, y + 17, packet)
 
 
-def stack(x, y, packets, fill):
+def stack(x, y, packets, fill, sizes):
     shown = packets if len(packets) <= MOST else packets[: MOST - 1]
-    out = [box(x, y + ROW * i, p, fill) for i, p in enumerate(shown)]
+    out = [box(x, y + ROW * i, p, fill, sizes) for i, p in enumerate(shown)]
     if len(packets) > len(shown):
         out.append(words(x + WIDE / 2, y + ROW * len(shown) + 17, f"and {len(packets) - len(shown)} more", 12))
     if not packets:
@@ -69,10 +95,12 @@ def stack(x, y, packets, fill):
     return out
 
 
-def draw(ticks):
+def draw(ticks, sizes):
     deep = [max(1, *(min(MOST, len(t[k])) for t in ticks)) for k in (5, 6)]
-    top = [30, 54, 136]  # clocks, records, the first stack
-    moves = top[2] + ROW * deep[0] + 14
+    note = NOTE if sizes else 0  # how long a start takes the line, and the bits that wait
+    top = [30, 54, 136 + note]  # clocks, records, the first stack
+    waits = ROW * deep[0] + note
+    moves = top[2] + waits + 14
     ends = moves + ROW * deep[1] + 14
     width, height = LEFT + WIDE * len(ticks) + 6, ends + ROW + 28
     out = [f'<svg xmlns="http://www.w3.org/2000/svg" width="{width}" height="{height}" viewBox="0 0 {width} {height}" font-family="DejaVu Sans, Verdana, sans-serif">',
@@ -84,7 +112,7 @@ def draw(ticks):
             x, w = LEFT + WIDE * first, WIDE * (i + 1 - first)
             out += [rect(x + 1, top[0], w - 2, 22, "#444"), words(x + w / 2, top[0] + 16, f"{t[0]:.6g} s", 13, "bold", fill="#fff")]
             first = i + 1
-    for y, h, label in ((top[1], 76, "record"), (top[2], ROW * deep[0], "waiting"), (moves, ROW * deep[1], "on the line"), (ends, ROW, "ended")):
+    for y, h, label in ((top[1], 76 + note, "record"), (top[2], waits, "waiting"), (moves, ROW * deep[1], "on the line"), (ends, ROW, "ended")):
         out += [rect(LEFT, y, WIDE * len(ticks), h, "#f7f7f7"), words(LEFT - 8, y + 17, label, 13, "bold", "end")]
     out.append(words(LEFT - 8, top[0] + 16, "clock", 13, "bold", "end"))
     for i, (time, part, mark, packet, started, waiting, line) in enumerate(ticks):
@@ -93,10 +121,14 @@ def draw(ticks):
         out.append(words(mid, top[1] + 16, part_name(part), 12))
         out.append(words(mid, top[1] + 36, mark if packet == "-" else f"{mark} {packet}", 15, "bold"))
         done = [w for w in (WORDS.get(mark), started != "-" and f"{started} starts") if w]
-        out += [words(mid, top[1] + 53 + 17 * k, text, 12) for k, text in enumerate(done)]
-        out += stack(x, top[2], waiting, WAITS) + stack(x, moves, line, MOVES)
+        if sizes and started != "-":
+            done.append(f"takes {sizes.seconds(started):.6g} s")
+        out += [words(mid, top[1] + 53 + NOTE * k, text, 12) for k, text in enumerate(done)]
+        out += stack(x, top[2], waiting, WAITS, sizes) + stack(x, moves, line, MOVES, sizes)
+        if sizes:
+            out.append(words(mid, top[2] + waits - 4, f"{sum(map(sizes.bits, waiting))} bits", 12))
         if mark in ENDS:
-            out += [box(x, ends, packet, ENDS[mark]), words(mid, ends + ROW + 14, WORDS[mark], 12)]
+            out += [box(x, ends, packet, ENDS[mark], sizes), words(mid, ends + ROW + 14, WORDS[mark], 12)]
         if i:
             out.append(f'<line x1="{x}" y1="{top[1]}" x2="{x}" y2="{ends + ROW}" stroke="#bbb"/>')
     return out + ["</svg>"]
@@ -105,10 +137,12 @@ def draw(ticks):
 def main():
     parser = argparse.ArgumentParser(description=__doc__, formatter_class=argparse.RawDescriptionHelpFormatter)
     parser.add_argument("--ticks", type=int, default=7, help="how many ticks to draw (if not given: 7)")
-    ticks = follow(sys.stdin, parser.parse_args().ticks)
+    parser.add_argument("--sizes", type=argparse.FileType(), help="the description, for the packets' sizes")
+    given = parser.parse_args()
+    ticks = follow(sys.stdin, given.ticks)
     if not ticks:
         fail("no record line on standard input")
-    print("\n".join(draw(ticks)))
+    print("\n".join(draw(ticks, given.sizes and Sizes(given.sizes.read()))))
 
 
 if __name__ == "__main__":

@@ -3,7 +3,8 @@
 
 Times are in seconds, rates in bit/s, amounts in bits. A time of --on and --off is one number (always
 that long) or two joined by a colon (drawn evenly between them). The ranges are remyline's to test:
-its answer `stop=1` to `stop=7` says which value it refuses.
+its answer `stop=1` to `stop=7` says which value it refuses, and `stop=15` that --bits has neither one
+number nor one for each gateway.
 
     describe.py --delay 0.08 --rate 500000 --policy held:4 > mine.txt
 """
@@ -23,6 +24,10 @@ def times(text):
     return ("always:" if len(parts) == 1 else "uniform:") + ":".join(parts)
 
 
+def bits(text):
+    return ",".join(str(int(v)) for v in text.split(","))
+
+
 def limit(text):
     return text if text == "none" else str(int(text))
 
@@ -40,7 +45,7 @@ KEYS = [
     ("rate", double, "1000000", "bit/s of the line"),
     ("loss", double, "0", "share of packets lost on the line, 0 to 1"),
     ("limit", limit, "none", "most bits that may wait for the line, or none"),
-    ("bits", int, "11200", "bits of a packet"),
+    ("bits", bits, "11200", "bits of a packet, or one number for each gateway, joined by commas"),
     ("senders", int, "1", "number of gateways, at most 16"),
     ("on", times, "10", "how long a gateway is on"),
     ("off", times, "1", "how long a gateway is off"),

@@ -47,10 +47,16 @@ def policy(text):
     return [word(POLICIES[kind]), word(first), word(most), gap]
 
 
+def bits(text):
+    """The network's 16: one value in every place, or the first 16 of several, and 0 in the places after them."""
+    values = text.split(",")
+    return [word(n) for n in (values * 16 if len(values) == 1 else values + [0] * 16)[:16]]
+
+
 def line(d, letter="H"):
     """A description as a line of the program's input."""
     limit = "-" * 16 if d["limit"] == "none" else word(d["limit"])
-    fields = [d["delay"], d["rate"], d["loss"], limit, word(d["bits"]), word(d["senders"])]
+    fields = [d["delay"], d["rate"], d["loss"], limit, *bits(d["bits"]), word(d["senders"])]
     fields += distribution(d["on"]) + distribution(d["off"]) + policy(d["policy"])
     return letter + " " + " ".join(fields + [word(d["seed"]), word(d["ticks"])])
 
@@ -65,9 +71,9 @@ def digest(text):
 # ---- runs that join (document 02, K11)
 
 # cut at every place, with the state's line after each
-SHORT = ["example", "stop-8-switched-on", "stop-8-switched-off", "senders-0"]
+SHORT = ["example", "stop-8-switched-on", "stop-8-switched-off", "senders-0", "two-sizes"]
 # cut at some places, with the digest of that line
-LONG = ["rings-wrap", "stop-12", "stop-13"]
+LONG = ["rings-wrap", "stop-12", "stop-13", "sizes-rings-wrap"]
 
 
 class Run:

@@ -46,6 +46,12 @@ def forms():
         yield record.describe(policy=policy)
     for number in range(1, 12):
         yield wrong(record.describe(), number)
+    # one value for all, which fills all 16 places; as many as senders, of which the first 16 count
+    for senders, bits in ((0, 0), (5, 8), (2, (8, 4)), (16, tuple(range(1, 17))), (17, tuple(range(1, 18))), (254, (1,) * 254), (2, (2**64 - 1, 0))):
+        yield record.describe(senders=senders, bits=bits)
+    for senders, bits in ((0, (8, 4)), (3, (8, 4)), (2, (8, 4, 6)), (255, (1,) * 255)):
+        yield record.describe(senders=senders, bits=bits)
+    yield wrong(record.describe(senders=2, bits=(8, 4)), 5)
 
 
 def main():

@@ -1,6 +1,6 @@
 #!/usr/bin/env python3
 """States and networks for every stop of document 01, as a script for the port's program `held`, with
-the answers that document 01 gives.
+the answers that document 01 gives, with document 02's K1.
 
 Not the Rust's answers: it has no stop 9 and cannot be given a state. Each case names what it is; a
 refused call must answer its number, change no field, and give the empty record.
@@ -71,7 +71,12 @@ DROPPED = dict(GOOD, delay=0.0, rate=1.0, limit=0, bits=11200, policy=held(1),
 
 
 def network(n):
-    return (n["delay"], n["rate"], n["loss"], n["limit"], n["bits"], n["senders"], *n["on"], *n["off"], *n["policy"])
+    return (n["delay"], n["rate"], n["loss"], n["limit"], *places(n["bits"]), n["senders"], *n["on"], *n["off"], *n["policy"])
+
+
+def places(bits):
+    """The network's 16 packet bits: of one number, or of a tuple for the first senders and 0 after it."""
+    return (bits,) * 16 if isinstance(bits, int) else (bits + (0,) * 16)[:16]
 
 
 def build(n, seed=1):
@@ -96,6 +101,7 @@ def cases():
     """Of each case: what it is, its commands, the answers."""
     yield from builds()
     yield from unfit()
+    yield from unfit_sizes()
     yield from others()
 
 
@@ -112,6 +118,14 @@ def builds():
     yield from each("loss", [(0.0, 0), (-0.0, 0), (1.0, 0), (-TINY, 3), (after(1.0), 3), (NAN, 3)])
     yield from each("limit", [(None, 0), (0, 0), (2**50, 0), (2**50 + 1, 4), (2**64 - 1, 4)])
     yield from each("bits", [(1, 0), (2**24, 0), (0, 5), (2**24 + 1, 5), (2**64 - 1, 5)])
+    at_places = [(place, 0, 5) for place in range(16)]
+    at_places += [(place, value, number) for place in (0, 15) for value, number in [(1, 0), (2**24, 0), (2**24 + 1, 5), (2**64 - 1, 5)]]
+    for place, value, number in at_places:
+        sizes = (8,) * place + (value,) + (8,) * (15 - place)
+        yield f"16 senders, and {value} bits at place {place}", [build(dict(GOOD, senders=16, bits=sizes))], [f"build {number}"]
+    for value in (0, 2**24 + 1, 2**64 - 1):
+        yield f"no senders, and {value} bits, which are not tested", [build(dict(GOOD, senders=0, bits=value))], ["build 0"]
+        yield f"two senders, and {value} bits in the places after theirs", [build(dict(GOOD, senders=2, bits=(8, 4) + (value,) * 14))], ["build 0"]
     yield from each("senders", [(0, 0), (16, 0), (17, 5), (2**32 - 1, 5)])
     times = [(always(TINY), 0), (always(2.0**20), 0), (always(0.0), 6), (always(-0.0), 6), (always(after(2.0**20)), 6),
              (always(NAN), 6), (uniform(0.0, 2.0**20), 0), (uniform(before(2.0**20), 2.0**20), 0), (uniform(-0.0, 1.0), 0),
@@ -169,8 +183,12 @@ def line(earliest=3.0, bits=8, waiting_from=2, waiting=1, on_line_from=1, on_lin
     return command("L", earliest, bits, waiting_from, waiting, on_line_from, on_line)
 
 
-def first(sender, seq, sent):
-    return command("W", 2, 1, sender, seq, sent)
+def first(sender, seq, sent, bits=8):
+    return command("W", 2, 1, sender, seq, sent, bits)
+
+
+def second(sender, seq, sent, bits=8):
+    return command("W", 3, 1, sender, seq, sent, bits)
 
 
 def front(sender, seq, sent, due):
@@ -198,7 +216,7 @@ def with_network(**changed):
 
 
 def waiters(start, count):
-    return [sender(sent=1000), command("W", 0, 512, 0, 1, 1.0), line(bits=8 * count, waiting_from=start, waiting=count)]
+    return [sender(sent=1000), command("W", 0, 512, 0, 1, 1.0, 8), line(bits=8 * count, waiting_from=start, waiting=count)]
 
 
 def travellers(start, count, due=3.0):
@@ -310,9 +328,52 @@ def unfit():
     yield not_fit("the second sender's meter", *pair, meter(total=-1.0, start=None, bits=0, records=0, rtt=0.0, i=1))
     yield not_fit("the second sender's toggler", *pair, toggler(on=False, time=NAN, i=1))
     yield fit("a meter above the senders", meter(total=NAN, i=1))
+    yield fit("bits above 2^24 in a place after the senders'", with_network(bits=(8, 2**24 + 1)))
     yield fit("waiting bits above the limit", *waiters(0, 2))
     yield fit("a packet held twice", first(0, 2, 2.0))
     yield fit("a greatest ack above sent", sender(ack=5), queued(1, 3.0))
+
+
+def unfit_sizes():
+    """Senders of 8 and of 4 bits, a packet of each waiting, and a record of the first."""
+    two = [with_network(senders=2, bits=(8, 4)), sender(sent=3, on=False, i=1), toggler(on=False, i=1), queued(4, TOGGLE),
+           second(1, 1, 2.0, 4), line(bits=12, waiting=2)]
+    yield "the worked example with a second sender, of 4 bits", [build(WORKED), command("R", 7), *two, "K"], ["build 0", f"run 7 0 {field(3.0)}"]
+
+    def fit(what, *edits):
+        return f"fit: {what}", ["Z", *edits, "T"], [MOVED]
+
+    def not_fit(what, *edits):
+        return f"unfit: {what}", ["Z", *edits, "T"], [refused(9)]
+
+    yield fit("packets of 8 and of 4 bits wait")
+    for bits in (8, 4, 11, 13, 16, 0):
+        yield not_fit(f"waiting bits {bits} of packets of 8 and of 4", line(bits=bits, waiting=2))
+    yield fit("both waiting packets are the first sender's", second(0, 3, 2.0, 8), line(bits=16, waiting=2))
+    yield fit("both waiting packets are the second sender's", first(1, 2, 2.0, 4), line(bits=8, waiting=2))
+    yield fit("the packet of 4 bits is the first to start", first(1, 1, 2.0, 4), second(0, 4, 2.0, 8))
+    yield not_fit("each carries the other's bits", first(0, 4, 2.0, 4), second(1, 1, 2.0, 8))
+    for bits in (4, 7, 9, 0):
+        yield not_fit(f"the first waiting packet carries {bits} bits, its sender's are 8", first(0, 4, 2.0, bits), line(bits=bits + 4, waiting=2))
+    for bits in (8, 3, 5, 0):
+        yield not_fit(f"the second waiting packet carries {bits} bits, its sender's are 4", second(1, 1, 2.0, bits), line(bits=8 + bits, waiting=2))
+    most = 2**64 - 1
+    yield not_fit("what they carry is 2^64 more than the waiting bits", first(0, 4, 2.0, most - 3), second(1, 1, 2.0, 16))
+    yield not_fit("512 wait, and each carries 2^64 - 1 bits", sender(sent=1000), command("W", 0, 512, 0, 1, 1.0, most), line(bits=most, waiting_from=0, waiting=512))
+    yield fit("other bits in a slot where none waits", second(1, 1, 2.0, 5), line(bits=8))
+    for numbers, good in [((8, 4), True), ((8, 5), False), ((7, 4), False), ((4, 8), False), ((8, 8), False), ((4, 4), False)]:
+        yield (fit if good else not_fit)(f"the senders' bits are {numbers[0]} and {numbers[1]}", with_network(senders=2, bits=numbers))
+    for records, bits, good in [(1, 4, True), (1, 8, False), (1, 3, False), (1, 5, False), (2, 8, True), (2, 16, False), (2, 12, False), (0, 0, True), (0, 4, False)]:
+        say, counted = fit if good else not_fit, meter(start=None, bits=bits, records=records, rtt=float(records), i=1)
+        yield say(f"{bits} bits and {records} records in the meter of the sender of 4", counted)
+    for bits in (4, 12):
+        yield not_fit(f"{bits} bits and 1 record in the meter of the sender of 8", meter(bits=bits))
+    yield fit("no packets wait, and the bits are 0", line(bits=0, waiting=0))
+    yield not_fit("no packets wait, and the bits are the first sender's", line(bits=8, waiting=0))
+    half = [sender(sent=1000), sender(sent=1000, on=False, i=1), command("W", 0, 512, 0, 1, 1.0, 8), command("W", 0, 256, 1, 1, 1.0, 4)]
+    for bits, good in [(256 * 12, True), (512 * 8, False), (512 * 4, False)]:
+        say = fit if good else not_fit
+        yield say(f"512 wait, half of them of 4 bits, waiting bits {bits}", *half, line(bits=bits, waiting_from=300, waiting=512))
 
 
 # ---- 8 and 10 to 13, idle, runs and flows
@@ -345,7 +406,7 @@ def others():
     unlimited = with_network(on=always(100.0))
 
     def full(count):
-        return [sender(sent=1000, ack=1000), command("W", 0, 512, 0, 1, 1.0),
+        return [sender(sent=1000, ack=1000), command("W", 0, 512, 0, 1, 1.0, 8),
                 line(bits=8 * count, waiting_from=0, waiting=count), *turn]
     yield after_z("511 wait and one is admitted", MOVED, unlimited, *full(511))
     yield after_z("12: 512 wait and one is admitted", refused(12), unlimited, *full(512))

@@ -27,6 +27,7 @@ record = program("record")
 # Every number of a description: its line's key, the value with % in its place, the base, and the bits or the most.
 NUMBERS = [
     ("delay", "%", 16, 64), ("rate", "%", 16, 64), ("loss", "%", 16, 64), ("limit", "%", 10, 64), ("bits", "%", 10, 64),
+    ("bits", "%,8", 10, 64), ("bits", "8,%,8", 10, 64), ("bits", "8,%", 10, 64),
     ("senders", "%", 10, 32), ("on", "always:%", 16, 64), ("on", "uniform:%:3ff0000000000000", 16, 64),
     ("on", "uniform:0000000000000000:%", 16, 64), ("off", "always:%", 16, 64), ("off", "uniform:%:3ff0000000000000", 16, 64),
     ("off", "uniform:0000000000000000:%", 16, 64), ("policy", "held:%", 10, 32), ("policy", "grown:%:64", 10, 32),
@@ -38,7 +39,8 @@ NUMBERS = [
 def numbers():
     """Each number of a description at its bounds, one past them, and written in another way."""
     for key, value, base, bits in NUMBERS:
-        put = lambda text: record.describe(**{"senders": 0, key: value.replace("%", text)})
+        senders = len(value.split(",")) if "," in value else 0
+        put = lambda text: record.describe(**{"senders": senders, key: value.replace("%", text)})
         if base == 16:
             for text in ("0000000000000000", "ffffffffffffffff", "3ff0000000000000", "3FF0000000000000", "3ff00000000000AA", "ff0000000000000",
                          "03ff0000000000000", "0x3ff00000000000", "+ff0000000000000", "-ff0000000000000", "", "3ff000000000000g", "3ff000000000000 "):

@@ -2,7 +2,7 @@
 
 use text::held::{
     Enabled, Held, Link as HeldLink, Meter, Packet as HeldPacket, Sender, Toggler as HeldToggler,
-    Transit,
+    Transit, Waiting,
 };
 
 use crate::{
@@ -109,7 +109,13 @@ fn link(link: &LinkPart) -> HeldLink {
     HeldLink {
         earliest: link.earliest_start().double(),
         bits: link.waiting_bits(),
-        waiting: link.waiting().map(packet).collect(),
+        waiting: link
+            .waiting()
+            .map(|waiting| Waiting {
+                packet: packet(waiting),
+                bits: waiting.size().bits(),
+            })
+            .collect(),
         line: link
             .on_line()
             .map(|(on_line, due)| Transit {
@@ -121,12 +127,17 @@ fn link(link: &LinkPart) -> HeldLink {
     }
 }
 
+/// The number of the sender that sent it.
+pub fn sender_of<E>(packet: &Packet<'_, E>) -> usize {
+    match Part::of(packet.source_part()) {
+        Part::Sender(sender) => sender,
+        other => panic!("a packet whose source is {other:?}"),
+    }
+}
+
 fn packet<'sim>(packet: &Packet<'sim, Effect<'sim>>) -> HeldPacket {
-    let Part::Sender(sender) = Part::of(packet.source_part()) else {
-        panic!("a packet whose source is no sender")
-    };
     HeldPacket {
-        sender,
+        sender: sender_of(packet),
         sequence: packet.sequence(),
         sent: packet.sent_time().double(),
     }

@@ -25,6 +25,7 @@ use crate::{
     policy::Policy,
     quantities::{bits_per_second, bytes, packets, seconds, Information, TimeSpan},
     simulation::SimulatorBuilder,
+    sizes,
     util::{
         logging::NothingLogger,
         meters::AverageFlowMeter,
@@ -79,15 +80,15 @@ fn session(
     ticks: u32,
     watch: &mut dyn FnMut(Option<&Record>, &Held),
 ) -> Result<Ended, u8> {
-    if packets(1).bits() != description.bits {
-        // SAFETY: the oracle has one thread, and it runs no simulation here.
-        unsafe { crate::PACKET_BITS = description.bits };
+    if crate::PATCHED {
+        sizes::set(description.sender_bits().map(amount).collect());
+    } else {
+        let one = packets(1).bits();
+        assert!(
+            description.sender_bits().all(|bits| bits == one),
+            "the published files have one packet size"
+        );
     }
-    assert_eq!(
-        packets(1).bits(),
-        description.bits,
-        "the published files have one packet size"
-    );
     with_guard(|guard| run(guard, description, ticks, watch))
 }
 
@@ -356,7 +357,7 @@ fn record(before: &Held, after: &Held, part: usize, arrived: bool) -> Record {
     let (mark, packet) = match Part::of(part) {
         Part::Link => {
             let (was, is) = (&before.link, &after.link);
-            started = (is.waiting.len() < was.waiting.len()).then(|| name(&was.waiting[0]));
+            started = (is.waiting.len() < was.waiting.len()).then(|| name(&was.waiting[0].packet));
             let left = is.line.len() < was.line.len() + usize::from(started.is_some());
             match left.then(|| &was.line[0].packet) {
                 None => ('-', None),

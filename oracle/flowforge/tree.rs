@@ -3,8 +3,8 @@
 //!
 //! Each published file stands there under its own path: as a link to it, or as a module of two
 //! lines that includes it and, beside it, functions that read its private fields. Modules that the
-//! listed files don't hold come from `missing/`. The crate `patched` has one file that is not the
-//! published one: its patched copy.
+//! listed files don't hold come from `missing/`. The crate `patched` has two files that are not the
+//! published ones: their patched copies.
 
 use std::{
     env, fs,
@@ -50,12 +50,24 @@ const MISSING: [(&str, &str); 8] = [
     ("util/never.rs", "never.rs"),
 ];
 
-/// The patch: the file, what stands there once, and what takes its place. The amount then counts
-/// bits, and a packet has the bits of the description.
-const PATCHED: &str = "quantities/information.rs";
-const PATCH: [(&str, &str); 2] = [
-    ("self.bytes() * 8", "self.bytes()"),
-    ("1400 * value", "unsafe { crate::PACKET_BITS } * value"),
+/// The patch: of each file what stands there once, and what takes its place. An amount then counts
+/// bits, and a packet has the bits of its sender.
+const PATCH: [(&str, &[(&str, &str)]); 2] = [
+    (
+        "quantities/information.rs",
+        &[("self.bytes() * 8", "self.bytes()")],
+    ),
+    (
+        "components/packet.rs",
+        &[
+            (
+                "quantities::{packets, Information, Time}",
+                "quantities::{Information, Time}",
+            ),
+            ("pub const fn size", "pub fn size"),
+            ("packets(1)", "crate::sizes::of(self)"),
+        ],
+    ),
 ];
 
 fn main() {
@@ -70,36 +82,47 @@ fn main() {
     let tree = out.join("tree");
     let patched = env::var("CARGO_PKG_NAME").unwrap() == "patched";
 
+    // The file that is compiled in the place of a published one: itself, or its patched copy.
+    let compiled = |path: &str| {
+        let file = track(published.join(path));
+        match PATCH.iter().find(|(name, _)| *name == path) {
+            Some((_, changes)) if patched => {
+                let copy = out.join("patched").join(path);
+                write(&copy, &patch(&file, changes));
+                copy
+            }
+            _ => file,
+        }
+    };
+
     let _ = fs::remove_dir_all(&tree);
     for path in PLAIN {
-        if patched && path == PATCHED {
-            write(&tree.join(path), &patch(&published.join(path)));
-        } else {
-            link(&published.join(path), &tree.join(path));
-        }
+        link(&compiled(path), &tree.join(path));
     }
     for path in WITH_BESIDE {
         let name = Path::new(path).file_name().unwrap();
-        let beside = harness.join("beside").join(name);
+        let beside = track(harness.join("beside").join(name));
         write(
             &tree.join(path),
-            &(include(&published.join(path)) + &include(&beside)),
+            &(include(&compiled(path)) + &include(&beside)),
         );
     }
     for (path, stand_in) in MISSING {
-        link(&harness.join("missing").join(stand_in), &tree.join(path));
+        let stand_in = track(harness.join("missing").join(stand_in));
+        link(&stand_in, &tree.join(path));
     }
-    let root = format!("#[path = {:?}]\npub mod flowforge;\n", tree.join("lib.rs"));
+    let root = format!(
+        "#[path = {:?}]\npub mod flowforge;\n\nconst PATCHED: bool = {patched};\n",
+        tree.join("lib.rs")
+    );
     write(&out.join("root.rs"), &root);
 }
 
 fn include(path: &Path) -> String {
-    track(path);
     format!("include!({path:?});\n")
 }
 
 fn link(to: &Path, from: &Path) {
-    track(to);
     fs::create_dir_all(from.parent().unwrap()).unwrap();
     std::os::unix::fs::symlink(to, from).unwrap();
 }
@@ -109,14 +132,14 @@ fn write(path: &Path, text: &str) {
     fs::write(path, text).unwrap();
 }
 
-fn track(path: &Path) {
+fn track(path: PathBuf) -> PathBuf {
     assert!(path.is_file(), "{} is missing", path.display());
     println!("cargo:rerun-if-changed={}", path.display());
+    path
 }
 
-fn patch(path: &Path) -> String {
-    track(path);
-    PATCH
+fn patch(path: &Path, changes: &[(&str, &str)]) -> String {
+    changes
         .iter()
         .fold(fs::read_to_string(path).unwrap(), |text, (old, new)| {
             assert_eq!(

@@ -7,6 +7,9 @@ use text::description::{Description, Distribution, Policy};
 /// Bytes of a list.
 pub const LIST: u64 = 65_536;
 
+/// Numbers that the `bits` line counts as.
+const BITS: usize = 16;
+
 /// The bytes of a letter, a space, a number and LF.
 const HEAD: usize = 19;
 
@@ -87,7 +90,12 @@ impl Tally {
                 self.add(bits);
             }
         }
-        self.add(d.bits);
+        for place in 0..BITS {
+            self.add(match d.bits[..] {
+                [all] => all,
+                ref each => each.get(place).copied().unwrap_or(0),
+            });
+        }
         self.add(d.senders.into());
         self.distribution(d.on);
         self.distribution(d.off);

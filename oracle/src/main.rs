@@ -88,17 +88,23 @@ fn describe(states: States, always_patched: bool) -> io::Result<()> {
     }
 }
 
-/// The published files as they are where they can be, the patched copy for any other packet size.
+/// The published files as they are where they can be, the patched copy for any other packet sizes.
 fn play(
     description: &Description,
     always_patched: bool,
     watch: &mut dyn FnMut(Option<&Record>, &Held),
 ) -> Result<End, u8> {
-    if description.bits == PUBLISHED_BITS && !always_patched {
+    if has_published_size(description) && !always_patched {
         published::session::play(description, watch)
     } else {
         patched::session::play(description, watch)
     }
+}
+
+/// All packets have the one size of the published files.
+fn has_published_size(description: &Description) -> bool {
+    let mut sizes = description.sender_bits();
+    sizes.all(|bits| bits == PUBLISHED_BITS)
 }
 
 fn show(
@@ -128,7 +134,7 @@ fn fnv_1a(bytes: &[u8]) -> u64 {
 fn ticks(count: &str) -> io::Result<()> {
     let count = count.parse().map_err(io::Error::other)?;
     let done = match description()? {
-        Ok(description) if description.bits != PUBLISHED_BITS => {
+        Ok(description) if !has_published_size(&description) => {
             return Err(io::Error::other("ticks takes packets of 11200 bits"));
         }
         Ok(description) => published::session::ticks(&description, count),

@@ -9,7 +9,7 @@ fn dropped(seconds: f64, window: u32, ticks: u32) -> Description {
         rate: 1.,
         loss: 0.,
         limit: Some(0),
-        bits: 11_200,
+        bits: vec![11_200],
         senders: 1,
         on: Distribution::Always(seconds),
         off: Distribution::Always(seconds),

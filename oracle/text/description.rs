@@ -1,10 +1,12 @@
-//! The description of a network: document 01's eleven lines, and the ranges of stops 1 to 7.
+//! The description of a network: document 01's eleven lines with document 02's `bits` line (K1), and the
+//! ranges of stops 1 to 7.
 
 use crate::double;
 
-/// Bytes that the reader takes, and bytes in a line.
+/// Bytes that the reader takes, bytes in a line, and bytes in the `bits` line.
 const TEXT: usize = 4096;
 const LINE: usize = 128;
+const BITS_LINE: usize = 512;
 
 const MOST_TICKS: u32 = 65_536;
 const MOST_SENDERS: u32 = 16;
@@ -29,7 +31,8 @@ pub struct Description {
     pub rate: f64,
     pub loss: f64,
     pub limit: Option<u64>,
-    pub bits: u64,
+    /// One value for all senders, or one for each.
+    pub bits: Vec<u64>,
     pub senders: u32,
     pub on: Distribution,
     pub off: Distribution,
@@ -46,10 +49,15 @@ impl Description {
         }
         let lines = std::str::from_utf8(text).ok()?.strip_suffix('\n')?;
         let lines: Vec<&str> = lines.split('\n').collect();
-        if lines.len() != 11 || lines.iter().any(|line| line.len() > LINE) {
+        if lines.len() != 11 {
             return None;
         }
-        let field = |index: usize, key: &str| lines[index].strip_prefix(key)?.strip_prefix('=');
+        let field = |index: usize, key: &str| {
+            let most = if key == "bits" { BITS_LINE } else { LINE };
+            let line = Some(lines[index]).filter(|line| line.len() <= most)?;
+            line.strip_prefix(key)?.strip_prefix('=')
+        };
+        let senders = decimal_32(field(5, "senders")?)?;
         Some(Description {
             delay: double(field(0, "delay")?)?,
             rate: double(field(1, "rate")?)?,
@@ -58,14 +66,20 @@ impl Description {
                 "none" => None,
                 bits => Some(decimal(bits)?),
             },
-            bits: decimal(field(4, "bits")?)?,
-            senders: decimal_32(field(5, "senders")?)?,
+            bits: bits(field(4, "bits")?, senders)?,
+            senders,
             on: distribution(field(6, "on")?)?,
             off: distribution(field(7, "off")?)?,
             policy: policy(field(8, "policy")?)?,
             seed: decimal(field(9, "seed")?)?,
             ticks: decimal_32(field(10, "ticks")?).filter(|ticks| *ticks <= MOST_TICKS)?,
         })
+    }
+
+    /// The packet bits of each sender.
+    pub fn sender_bits(&self) -> impl Iterator<Item = u64> + '_ {
+        let values = self.bits.iter().copied();
+        values.cycle().take(self.senders as usize)
     }
 
     /// The lowest of stops 1 to 7 that holds.
@@ -75,7 +89,8 @@ impl Description {
             within(1., self.rate, two_to(50)),
             within(0., self.loss, 1.),
             self.limit.is_none_or(|limit| limit <= 1 << 50),
-            (1..=1 << 24).contains(&self.bits) && self.senders <= MOST_SENDERS,
+            self.senders <= MOST_SENDERS
+                && self.sender_bits().all(|bits| (1..=1 << 24).contains(&bits)),
             self.on.fit() && self.off.fit(),
             self.policy.fit(),
         ];
@@ -113,6 +128,13 @@ pub fn within(least: f64, value: f64, most: f64) -> bool {
 
 pub fn two_to(power: i32) -> f64 {
     2_f64.powi(power)
+}
+
+/// One value, or as many as senders, joined by commas.
+fn bits(text: &str, senders: u32) -> Option<Vec<u64>> {
+    let values: Vec<u64> = text.split(',').map(decimal).collect::<Option<_>>()?;
+    let count = values.len();
+    (count == 1 || count == senders as usize).then_some(values)
 }
 
 fn distribution(text: &str) -> Option<Distribution> {

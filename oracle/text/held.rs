@@ -11,6 +11,13 @@ pub struct Packet {
     pub sent: f64,
 }
 
+/// A packet that waits, and the bits that it carries.
+#[derive(Clone, Debug, PartialEq)]
+pub struct Waiting {
+    pub packet: Packet,
+    pub bits: u64,
+}
+
 /// A packet on the line, and when it is due.
 #[derive(Clone, Debug, PartialEq)]
 pub struct Transit {
@@ -55,7 +62,7 @@ pub struct Toggler {
 pub struct Link {
     pub earliest: f64,
     pub bits: u64,
-    pub waiting: Vec<Packet>,
+    pub waiting: Vec<Waiting>,
     pub line: Vec<Transit>,
     pub words: Words,
 }
@@ -82,7 +89,7 @@ impl Held {
             ),
             format!("earliest={}", hex(self.link.earliest)),
             format!("bits={}", self.link.bits),
-            format!("waiting={}", list(&self.link.waiting, packet)),
+            format!("waiting={}", list(&self.link.waiting, waiting)),
             format!("line={}", list(&self.link.line, transit)),
             format!("link={}", words(&self.link.words)),
         ];
@@ -119,6 +126,10 @@ impl Held {
 
 fn packet(packet: &Packet) -> String {
     format!("{}:{}:{}", packet.sender, packet.sequence, hex(packet.sent))
+}
+
+fn waiting(waiting: &Waiting) -> String {
+    format!("{}:{}", packet(&waiting.packet), waiting.bits)
 }
 
 fn transit(transit: &Transit) -> String {
