@@ -7,7 +7,7 @@ use lib.ListN.{getD, set}
 use lib.Seq.{set-getD}
 use lib.Dec.{eqb, leb}
 use borrow.Author.Tests.{eq-eqb}
-use Rattle.quantities.specs.Units.{spanOf, rateOf, amountOf}
+use Rattle.quantities.specs.Units.{spanOf, rateOf}
 use Rattle.meters.specs.declared.meter.AverageFlowMeter.{AverageFlowMeter}
 use Rattle.meters.specs.declared.meter.Metered.{Metered}
 use Rattle.meters.specs.Meter.{switchedOf}
@@ -39,9 +39,10 @@ use Rattle.toggler.specs.Queue.{noQueued, pickOf}
 use Rattle.remy.specs.declared.simulation.Simulation.{Simulation}
 use Rattle.remy.specs.declared.simulation.Mark.the-variants as Mark
 use Rattle.remy.specs.declared.simulation.Name.the-variants as Name
-use Rattle.remy.specs.State.{link, sender, toggler, noPacket, noTransit, noSender, noToggler, noMeter, senderAt, togglerAt, meterAt, frontOf, firstOf, withLine, withOnLine, withSender, withToggler}
+use Rattle.remy.specs.State.{link, sender, toggler, noWaiting, noTransit, noSender, noToggler, noMeter, senderAt, togglerAt, meterAt, frontOf, firstOf, withLine, senderBits, withOnLine, withSender, withToggler}
 use Rattle.remy.specs.Queue.{ownTime, requeue, headOf, picked}
 use Rattle.remy.specs.Tick.{Acted, named, recordAt, arriveWith, arrives, timerWith, sendWith, senderWith, senderActs, togglerWith, togglerActs, switches, leftRecord, leftMessages, begunName, putOnLine, heardMark, returnWith, linkWith, linkActs, actsOf, moves, stops, deliver, deliverAll, pickAgain, outcomeWith, outcomeOf}
+use Rattle.remy.proofs.Names.{sent-own}
 use Rattle.queueing.proofs.Picks.{picks}
 use Rattle.turns.specs.declared.Hearing.{Hearing}
 use Rattle.turns.specs.declared.LinkActed.{LinkActed}
@@ -102,14 +103,14 @@ module _ (s : Simulation) (k at : ℕ) (l : Line) where
   unfolding requeue ownTime
   unheard begun h e f g = rw (e, f, g, put-line s at begun, set-getD (s .senders) k noSender, set-getD (s .meters) k noMeter, set-getD (set (s .queue) 0 (linkSlot true l (s .head .clock) (getD (set (s .«on_line») at (onLineAt begun (getD (s .«on_line») at noTransit))) (l .«on_line» .start) noTransit) (getD (s .queue) 0 noQueued))) (1 + 2 * k) noQueued)
 
-  -- its sender hears of it
-  heard-of : (p : Packet) (begun : Begun) (x : Returned) (w : Heard) → x .heard ≡ w
+  -- its sender hears of it, and counts with its own bits
+  heard-of : (p : Packet) → p .sender ≡ k → (begun : Begun) (x : Returned) (w : Heard) → x .heard ≡ w
       → returnWith (leftRecord s (Left.Out p) (begunName begun)) (requeue (withLine (putOnLine s at begun) l) link) k p x
-      ≡ moves (linkNote (s .head .clock) (Left.Out p) begun (heardMark (x .heard))) (link-state s k at l begun (heardWith (s .network) (s .head .clock) p (meterAt s k) x))
+      ≡ moves (linkNote (s .head .clock) (Left.Out p) begun (heardMark (x .heard))) (link-state s k at l begun (heardWith (senderBits (s .network) k .0) (s .head .clock) p (meterAt s k) x))
   unfolding requeue ownTime
-  heard-of p begun x Heard.Ignored e = rw (put-line s at begun, e, set-getD (s .meters) k noMeter)
-  heard-of p begun x Heard.Old e = rw (put-line s at begun, e, set-getD (s .meters) k noMeter)
-  heard-of p begun x Heard.Counted e = rw (put-line s at begun, e)
+  heard-of p own begun x Heard.Ignored e = rw (put-line s at begun, e, set-getD (s .meters) k noMeter)
+  heard-of p own begun x Heard.Old e = rw (put-line s at begun, e, set-getD (s .meters) k noMeter)
+  heard-of p own begun x Heard.Counted e = rw (put-line s at begun, e, own)
 
   same-senders : (begun : Begun) → requeue (withLine (putOnLine s at begun) l) link .senders ≡ s .senders
   unfolding requeue
@@ -121,13 +122,13 @@ module _ (s : Simulation) (k at : ℕ) (l : Line) where
 
   pub link-law : (left : Left) (begun : Begun) → ((p : Packet) → left ≡ Left.Out p → p .sender ≡ k)
       → deliverAll (moves (leftRecord s left (begunName begun)) (requeue (withLine (putOnLine s at begun) l) link)) (leftMessages left)
-      ≡ moves (linkNote (s .head .clock) left begun (heardBy (s .network) (s .head .clock) left (senderAt s k) (meterAt s k) .mark))
-      (link-state s k at l begun (heardBy (s .network) (s .head .clock) left (senderAt s k) (meterAt s k)))
+      ≡ moves (linkNote (s .head .clock) left begun (heardBy (s .network .policy) (senderBits (s .network) k .0) (s .head .clock) left (senderAt s k) (meterAt s k) .mark))
+      (link-state s k at l begun (heardBy (s .network .policy) (senderBits (s .network) k .0) (s .head .clock) left (senderAt s k) (meterAt s k)))
   unfolding heardBy deliver
-  link-law Left.Nobody begun own = ap (moves (leftRecord s Left.Nobody (begunName begun))) (unheard begun (heardBy (s .network) (s .head .clock) Left.Nobody (senderAt s k) (meterAt s k)) refl refl refl)
-  link-law (Left.Lost p) begun own = ap (moves (leftRecord s (Left.Lost p) (begunName begun))) (unheard begun (heardBy (s .network) (s .head .clock) (Left.Lost p) (senderAt s k) (meterAt s k)) refl refl refl)
+  link-law Left.Nobody begun own = ap (moves (leftRecord s Left.Nobody (begunName begun))) (unheard begun (heardBy (s .network .policy) (senderBits (s .network) k .0) (s .head .clock) Left.Nobody (senderAt s k) (meterAt s k)) refl refl refl)
+  link-law (Left.Lost p) begun own = ap (moves (leftRecord s (Left.Lost p) (begunName begun))) (unheard begun (heardBy (s .network .policy) (senderBits (s .network) k .0) (s .head .clock) (Left.Lost p) (senderAt s k) (meterAt s k)) refl refl refl)
   link-law (Left.Out p) begun own =
-      returned-of (p .sender) (own p refl) ∙ heard-of p begun (returnedOf (s .network .policy) (senderAt s k) p) _ refl
+      returned-of (p .sender) (own p refl) ∙ heard-of p (own p refl) begun (returnedOf (s .network .policy) (senderAt s k) p) _ refl
     where
       returned-of : (j : ℕ) → j ≡ k
           → returnWith (leftRecord s (Left.Out p) (begunName begun)) (requeue (withLine (putOnLine s at begun) l) link) j p
@@ -139,8 +140,8 @@ module _ (s : Simulation) (k at : ℕ) (l : Line) where
 
 link-with : (s : Simulation) (k : ℕ) (d : Delivered) (t : Transmitted) → ((p : Packet) → d .left ≡ Left.Out p → p .sender ≡ k) → t .number ≡ 0
     → outcomeWith link (linkWith s d t)
-    ≡ moves (linkNote (s .head .clock) (d .left) (t .begun) (heardBy (s .network) (s .head .clock) (d .left) (senderAt s k) (meterAt s k) .mark))
-    (picked (link-state s k (placeAfter (d .line .«on_line»)) (t .line) (t .begun) (heardBy (s .network) (s .head .clock) (d .left) (senderAt s k) (meterAt s k))))
+    ≡ moves (linkNote (s .head .clock) (d .left) (t .begun) (heardBy (s .network .policy) (senderBits (s .network) k .0) (s .head .clock) (d .left) (senderAt s k) (meterAt s k) .mark))
+    (picked (link-state s k (placeAfter (d .line .«on_line»)) (t .line) (t .begun) (heardBy (s .network .policy) (senderBits (s .network) k .0) (s .head .clock) (d .left) (senderAt s k) (meterAt s k))))
 link-with s k d t own z = rw (eq-eqb _ _ z) (ap pickAgain (link-law s k (placeAfter (d .line .«on_line»)) (t .line) (d .left) (t .begun) own))
 
 -- the packet that leaves, and then the packet that starts
@@ -148,11 +149,11 @@ abbrev delivered : Simulation → Delivered
 delivered s = tryDeliver (s .line) (s .head .clock) (frontOf s) (s .network .loss)
 
 abbrev transmitted : Simulation → Transmitted
-transmitted s = tryTransmit (delivered s .line) (s .head .clock) (firstOf s) (spanOf (s .network .delay)) (rateOf (s .network .rate)) (amountOf (s .network .bits))
+transmitted s = tryTransmit (delivered s .line) (s .head .clock) (firstOf s) (spanOf (s .network .delay)) (rateOf (s .network .rate))
 
 -- the turn, as the loop has it: what the link did, who hears of it, and the state with the pick
 pub link-moves : (s : Simulation) (k : ℕ) (c : LinkActed) → c ≡ linkActed (s .network) (s .line) (s .head .clock) (frontOf s) (firstOf s) → ((p : Packet) → c .left ≡ Left.Out p → p .sender ≡ k)
-    → c .number ≡ 0 → (h : Hearing) → h ≡ heardBy (s .network) (s .head .clock) (c .left) (senderAt s k) (meterAt s k)
+    → c .number ≡ 0 → (h : Hearing) → h ≡ heardBy (s .network .policy) (senderBits (s .network) k .0) (s .head .clock) (c .left) (senderAt s k) (meterAt s k)
     → (q : Picked) → q ≡ pickOf (link-state s k (c .at) (c .line) (c .begun) h .queue)
     → outcomeOf s link ≡ moves (linkNote (s .head .clock) (c .left) (c .begun) (h .mark)) (stored-pick (link-state s k (c .at) (c .line) (c .begun) h) q)
 unfolding outcomeOf actsOf linkActs linkActed
@@ -223,7 +224,7 @@ sender-state s i a b =
       network = s .network;
       head = s .head;
       line = b .line;
-      waiting = set (s .waiting) (b .at) (waitingAt (b .admitted) (a .sending) (getD (s .waiting) (b .at) noPacket));
+      waiting = set (s .waiting) (b .at) (waitingAt (b .admitted) (senderBits (s .network) i .0) (a .sending) (getD (s .waiting) (b .at) noWaiting));
       «on_line» = s .«on_line»;
       senders = senders;
       togglers = s .togglers;
@@ -237,19 +238,23 @@ module _ (s : Simulation) (i : ℕ) where
   abbrev between-state : SenderActed → Simulation
   between-state a = requeue (withSender s i (a .sender)) (sender i)
 
-  arrived : (a : SenderActed) (p : Packet) → a .sending ≡ Sending.Packet p → (b : Arrival) → (adm : Bool) → b .admitted ≡ adm → (adm ≡ false → b .line ≡ s .line) → b .number ≡ 0
+  arrived : (a : SenderActed) (p : Packet) → p .sender ≡ i → a .sending ≡ Sending.Packet p → (b : Arrival) → (adm : Bool) → b .admitted ≡ adm → (adm ≡ false → b .line ≡ s .line) → b .number ≡ 0
       → arriveWith (recordAt s (sender i) Mark.None (named p) Name.None) (between-state a) p b
       ≡ moves (senderNote (s .head .clock) i (a .sending) (cond (b .admitted) Mark.Sent Mark.Full)) (sender-state s i a (arrivedWith (s .line) b))
   unfolding requeue ownTime
-  arrived a p e b true f g z = rw (eq-eqb _ _ z, f, e)
-  arrived a p e b false f g z = rw (eq-eqb _ _ z, f, e, g refl, set-getD (s .waiting) (placeAfter (s .line .waiting)) noPacket)
+  arrived a p own e b true f g z = rw (eq-eqb _ _ z, f, e, own)
+  arrived a p own e b false f g z = rw (eq-eqb _ _ z, f, e, g refl, set-getD (s .waiting) (placeAfter (s .line .waiting)) noWaiting)
 
-  same-line : (b : Arrival) → b ≡ receiveOf (s .network .limit) (s .line) (amountOf (s .network .bits)) → b .admitted ≡ false → b .line ≡ s .line
+  -- the link reads the bits of the packet's sender
+  received-own : {j : ℕ} → j ≡ i → receiveOf (s .network .limit) (s .line) (senderBits (s .network) j) ≡ receiveOf (s .network .limit) (s .line) (senderBits (s .network) i)
+  received-own own = ap (λ (k : ℕ). receiveOf (s .network .limit) (s .line) (senderBits (s .network) k)) own
+
+  same-line : (b : Arrival) → b ≡ receiveOf (s .network .limit) (s .line) (senderBits (s .network) i) → b .admitted ≡ false → b .line ≡ s .line
   unfolding receiveOf
-  same-line b e f = ap (λ (x : Arrival). x .line) e ∙ by (admits (s .network .limit) (s .line .«buffer_contains») (amountOf (s .network .bits))) (leb places (s .line .waiting .count)) (sym (ap (λ (x : Arrival). x .admitted) e) ∙ f)
+  same-line b e f = ap (λ (x : Arrival). x .line) e ∙ by (admits (s .network .limit) (s .line .«buffer_contains») (senderBits (s .network) i)) (leb places (s .line .waiting .count)) (sym (ap (λ (x : Arrival). x .admitted) e) ∙ f)
     where
       taken-or : Bool → Bool → Arrival
-      taken-or t u = cond t (cond u (record { number = 12; admitted = false; line = s .line }) (record { number = 0; admitted = true; line = admitted (s .line) (amountOf (s .network .bits)) })) (record { number = 0; admitted = false; line = s .line })
+      taken-or t u = cond t (cond u (record { number = 12; admitted = false; line = s .line }) (record { number = 0; admitted = true; line = admitted (s .line) (senderBits (s .network) i) })) (record { number = 0; admitted = false; line = s .line })
 
       by : (t u : Bool) → taken-or t u .admitted ≡ false → taken-or t u .line ≡ s .line
       by true true e = refl
@@ -259,38 +264,42 @@ module _ (s : Simulation) (i : ℕ) where
   -- the sender's turn by what it sends
   by-timer : (t : Enabled)
       → outcomeWith (sender i) (timerWith s i t)
-      ≡ moves (senderNote (s .head .clock) i Sending.Timer Mark.Timer) (picked (sender-state s i (timerTook (senderAt s i) t) (arrivedAt (s .network .limit) (s .network .bits) (s .line) Sending.Timer)))
+      ≡ moves (senderNote (s .head .clock) i Sending.Timer Mark.Timer) (picked (sender-state s i (timerTook (senderAt s i) t) (arrivedAt (s .network .limit) (senderBits (s .network) i .0) (s .line) Sending.Timer)))
   unfolding requeue ownTime arrivedAt
-  by-timer t = rw (set-getD (s .waiting) (placeAfter (s .line .waiting)) noPacket, set-getD (set (s .queue) (1 + 2 * i) (senderSlot true (getD (set (s .senders) i (timerTook (senderAt s i) t .sender)) i noSender) (s .head .clock) (getD (s .queue) (1 + 2 * i) noQueued))) 0 noQueued)
+  by-timer t = rw (set-getD (s .waiting) (placeAfter (s .line .waiting)) noWaiting, set-getD (set (s .queue) (1 + 2 * i) (senderSlot true (getD (set (s .senders) i (timerTook (senderAt s i) t .sender)) i noSender) (s .head .clock) (getD (s .queue) (1 + 2 * i) noQueued))) 0 noQueued)
 
-  by-send : (t : Sent) → t .number ≡ 0 → (b : Arrival) → b ≡ receiveOf (s .network .limit) (s .line) (amountOf (s .network .bits)) → b .number ≡ 0
+  by-send : (t : Sent) → t .packet .sender ≡ i → t .number ≡ 0 → (b : Arrival) → b ≡ receiveOf (s .network .limit) (s .line) (senderBits (s .network) i) → b .number ≡ 0
       → outcomeWith (sender i) (sendWith s i t)
       ≡ moves (senderNote (s .head .clock) i (Sending.Packet (t .packet)) (cond (b .admitted) Mark.Sent Mark.Full)) (picked (sender-state s i (sendTook (senderAt s i) t) (arrivedWith (s .line) b)))
   unfolding requeue ownTime deliver
-  by-send t z b e y = rw (eq-eqb _ _ z) (ap pickAgain (ap (arriveWith (recordAt s (sender i) Mark.None (named (t .packet)) Name.None) (between-state (sendTook (senderAt s i) t)) (t .packet)) (sym e) ∙ arrived (sendTook (senderAt s i) t) (t .packet) refl b (b .admitted) refl (same-line b e) y))
+  by-send t own z b e y =
+      rw (eq-eqb _ _ z)
+      (ap pickAgain
+      (ap (arriveWith (recordAt s (sender i) Mark.None (named (t .packet)) Name.None) (between-state (sendTook (senderAt s i) t)) (t .packet)) (received-own own ∙ sym e)
+      ∙ arrived (sendTook (senderAt s i) t) (t .packet) own refl b (b .admitted) refl (same-line b e) y))
 
   -- by the state of the sender
   abbrev Turn : SenderActed → Arriving → Acted → Type 0
   Turn a b acted = outcomeWith (sender i) acted ≡ moves (senderNote (s .head .clock) i (a .sending) (b .mark)) (picked (sender-state s i a b))
 
   abbrev arriving : SenderActed → Arriving
-  arriving a = arrivedAt (s .network .limit) (s .network .bits) (s .line) (a .sending)
+  arriving a = arrivedAt (s .network .limit) (senderBits (s .network) i .0) (s .line) (a .sending)
 
-  chosen : (t : Bool) (u : Enabled) (v : Sent) → cond t (timerTook (senderAt s i) u) (sendTook (senderAt s i) v) .number ≡ 0
+  chosen : (t : Bool) (u : Enabled) (v : Sent) → v .packet .sender ≡ i → cond t (timerTook (senderAt s i) u) (sendTook (senderAt s i) v) .number ≡ 0
       → arriving (cond t (timerTook (senderAt s i) u) (sendTook (senderAt s i) v)) .number ≡ 0
       → Turn (cond t (timerTook (senderAt s i) u) (sendTook (senderAt s i) v)) (arriving (cond t (timerTook (senderAt s i) u) (sendTook (senderAt s i) v))) (cond t (timerWith s i u) (sendWith s i v))
   unfolding arrivedAt
-  chosen true u v z y = by-timer u
-  chosen false u v z y = by-send v z (receiveOf (s .network .limit) (s .line) (amountOf (s .network .bits))) refl y
+  chosen true u v own z y = by-timer u
+  chosen false u v own z y = by-send v own z (receiveOf (s .network .limit) (s .line) (senderBits (s .network) i)) refl y
 
   took : (w : SenderState) → senderTook (s .network) (s .head .clock) (senderAt s i) i w .number ≡ 0 → arriving (senderTook (s .network) (s .head .clock) (senderAt s i) i w) .number ≡ 0
       → Turn (senderTook (s .network) (s .head .clock) (senderAt s i) i w) (arriving (senderTook (s .network) (s .head .clock) (senderAt s i) i w)) (senderWith s i w)
   took State.WaitingForEnable z y = absurd (omega (arith, z))
   took (State.Enabled e) z y =
-      chosen (timerDue e (s .head .clock)) (tickTimer (s .network .policy) e (s .head .clock)) (tickSend (senderAt s i .«packets_sent») (s .network .policy) e (s .head .clock) i) z y
+      chosen (timerDue e (s .head .clock)) (tickTimer (s .network .policy) e (s .head .clock)) (tickSend (senderAt s i .«packets_sent») (s .network .policy) e (s .head .clock) i) (sent-own (senderAt s i .«packets_sent») s e i) z y
 
   pub sender-moves : (a : SenderActed) → a ≡ senderActed (s .network) (s .head .clock) (senderAt s i) i → a .number ≡ 0
-      → (b : Arriving) → b ≡ arrivedAt (s .network .limit) (s .network .bits) (s .line) (a .sending) → b .number ≡ 0
+      → (b : Arriving) → b ≡ arrivedAt (s .network .limit) (senderBits (s .network) i .0) (s .line) (a .sending) → b .number ≡ 0
       → (q : Picked) → q ≡ pickOf (sender-state s i a b .queue)
       → outcomeOf s (sender i) ≡ moves (senderNote (s .head .clock) i (a .sending) (b .mark)) (stored-pick (sender-state s i a b) q)
   unfolding outcomeOf actsOf senderActs senderActed
@@ -315,12 +324,15 @@ module _ (s : Simulation) (i : ℕ) where
   sender-stops a e z = rw e (took-stops (senderAt s i .state) (sym (ap (λ (x : SenderActed). eqb (x .number) 0) e) ∙ z))
 
   -- stopped where the packet arrives
-  chosen-full : (t : Bool) (u : Enabled) (v : Sent) → cond t (timerTook (senderAt s i) u) (sendTook (senderAt s i) v) .number ≡ 0
+  chosen-full : (t : Bool) (u : Enabled) (v : Sent) → v .packet .sender ≡ i → cond t (timerTook (senderAt s i) u) (sendTook (senderAt s i) v) .number ≡ 0
       → eqb (arriving (cond t (timerTook (senderAt s i) u) (sendTook (senderAt s i) v)) .number) 0 ≡ false
       → outcomeWith (sender i) (cond t (timerWith s i u) (sendWith s i v)) ≡ stops (arriving (cond t (timerTook (senderAt s i) u) (sendTook (senderAt s i) v)) .number)
   unfolding arrivedAt deliver requeue
-  chosen-full true u v z y = absurd (true≢false y)
-  chosen-full false u v z y = rw (eq-eqb _ _ z) (full-stop (receiveOf (s .network .limit) (s .line) (amountOf (s .network .bits))) y)
+  chosen-full true u v own z y = absurd (true≢false y)
+  chosen-full false u v own z y =
+      rw (eq-eqb _ _ z)
+      (ap (λ (b : Arrival). pickAgain (arriveWith (recordAt s (sender i) Mark.None (named (v .packet)) Name.None) (between-state (sendTook (senderAt s i) v)) (v .packet) b)) (received-own own)
+      ∙ full-stop (receiveOf (s .network .limit) (s .line) (senderBits (s .network) i)) y)
     where
       full-stop : (b : Arrival) → eqb (b .number) 0 ≡ false
           → pickAgain (arriveWith (recordAt s (sender i) Mark.None (named (v .packet)) Name.None) (between-state (sendTook (senderAt s i) v)) (v .packet) b) ≡ stops (b .number)
@@ -331,10 +343,10 @@ module _ (s : Simulation) (i : ℕ) where
       → outcomeWith (sender i) (senderWith s i w) ≡ stops (arriving (senderTook (s .network) (s .head .clock) (senderAt s i) i w) .number)
   took-full State.WaitingForEnable z y = absurd (omega (arith, z))
   took-full (State.Enabled e) z y =
-      chosen-full (timerDue e (s .head .clock)) (tickTimer (s .network .policy) e (s .head .clock)) (tickSend (senderAt s i .«packets_sent») (s .network .policy) e (s .head .clock) i) z y
+      chosen-full (timerDue e (s .head .clock)) (tickTimer (s .network .policy) e (s .head .clock)) (tickSend (senderAt s i .«packets_sent») (s .network .policy) e (s .head .clock) i) (sent-own (senderAt s i .«packets_sent») s e i) z y
 
   pub sender-full : (a : SenderActed) → a ≡ senderActed (s .network) (s .head .clock) (senderAt s i) i → a .number ≡ 0
-      → (b : Arriving) → b ≡ arrivedAt (s .network .limit) (s .network .bits) (s .line) (a .sending) → eqb (b .number) 0 ≡ false → outcomeOf s (sender i) ≡ stops (b .number)
+      → (b : Arriving) → b ≡ arrivedAt (s .network .limit) (senderBits (s .network) i .0) (s .line) (a .sending) → eqb (b .number) 0 ≡ false → outcomeOf s (sender i) ≡ stops (b .number)
   unfolding outcomeOf actsOf senderActs senderActed
   sender-full a e z b f y =
       rw (f, e) (took-full (senderAt s i .state) (sym (ap (λ (x : SenderActed). x .number) e) ∙ z) (sym (ap (λ (x : Arriving). eqb (x .number) 0) (f ∙ ap arriving e)) ∙ y))

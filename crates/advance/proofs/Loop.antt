@@ -2,7 +2,7 @@
 use mathlib.Core.Path.{_≡_, refl, sym, ap, subst, _∙_}
 use mathlib.Core.Bool.{Bool, true, false, cond}
 use mathlib.Core.List.{List}
-use Prim.Native.Nat.{ℕ, _+_, _*_, _<_}
+use Prim.Native.Nat.{ℕ, _+_, _*_, _<_, _^_}
 use native.Mathlib.Omega.{arith}
 use lib.ListN.{length, getD, set}
 use lib.Seq.{getD-set-same}
@@ -10,12 +10,12 @@ use lib.Dec.{ltb, leb}
 use borrow.Author.Tests.{ltb-true}
 use Rattle.quantities.specs.declared.time.Time.{Time}
 use Rattle.quantities.specs.declared.time_span.TimeSpan.{TimeSpan}
-use Rattle.quantities.specs.declared.information.Information.{Information}
 use Rattle.quantities.specs.declared.information_rate.InformationRate.{InformationRate}
 use Rattle.quantities.specs.Units.{spanOf, rateOf, amountOf}
 use Rattle.meters.specs.declared.meter.Metered.{Metered}
 use Rattle.meters.specs.Meter.{switchedOf}
 use Rattle.link.specs.declared.packet.Packet.{Packet}
+use Rattle.link.specs.declared.packet.Waiting.{Waiting}
 use Rattle.link.specs.declared.packet.Transit.{Transit}
 use Rattle.link.specs.declared.link.Limit.{Limit}
 use Rattle.link.specs.declared.link.Line.{Line}
@@ -32,7 +32,7 @@ use Rattle.toggler.specs.Queue.{noQueued, pickOf}
 use Rattle.remy.specs.declared.simulation.Head.{Head}
 use Rattle.remy.specs.declared.simulation.Simulation.{Simulation}
 use Rattle.remy.specs.declared.simulation.TickRecord.{TickRecord}
-use Rattle.remy.specs.State.{Role, link, sender, toggler, noPacket, noTransit, noSender, noToggler, senderAt, togglerAt, meterAt, frontOf, firstOf}
+use Rattle.remy.specs.State.{Role, link, sender, toggler, noWaiting, noTransit, noSender, noToggler, senderAt, togglerAt, meterAt, frontOf, firstOf, senderBits}
 use Rattle.remy.specs.Queue.{headOf}
 use Rattle.remy.specs.Fit.{fit}
 use Rattle.remy.specs.HeldTimes.{Full}
@@ -50,7 +50,7 @@ use Rattle.queueing.specs.Queueing.{nowOf, linkSlot, senderSlot, placeAfterPick
 use Rattle.turns.specs.Turns.{ownerOf, linkActed, onLineAt, heardBy, linkNote, togglerNote, switchedTo, senderActed, arrivedAt, waitingAt, senderNote}
 use Rattle.turns.proofs.InRange.{on-line-range}
 use Rattle.advance.proofs.Arms.{link-state, sender-state, toggler-state, link-moves, sender-moves, toggler-moves}
-use Rattle.advance.proofs.Ticks.{TickAs, now-tick, InPlace, in-place, own-packet}
+use Rattle.advance.proofs.Ticks.{TickAs, now-tick, InPlace, in-place, room, own-packet}
 
 -- ---- whose turn it is
 
@@ -77,6 +77,10 @@ module _ (s : Simulation) (b : Bool) (f : b ≡ fit s) (t : Now) (g : t ≡ nowO
       let few = p .senders in
       let inside = r .1 in record { fits = r .0; below = omega (arith, few, inside); tick = r .2; place = p }
 
+  -- a packet that it sends finds room
+  pub sender-room : (i : ℕ) → t ≡ Now.Sender i → s .line .«buffer_contains» .0 + senderBits (s .network) i .0 < 2 ^ 64
+  sender-room i e = let r = turn-as (Now.Sender i) e in room s (r .0) i (r .1)
+
   pub toggler-turn : (i : ℕ) → t ≡ Now.Toggler i → Turn s (toggler i) i
   toggler-turn i e =
       let r = turn-as (Now.Toggler i) e in
@@ -94,8 +98,8 @@ owner-small p k e = subst (λ (x : ℕ). x < 16) (sym e) (by (ltb (p .sender) 16
     by false h = omega arith
 
 -- a start moves no ring's start but that of the packets that wait
-module _ (l : Line) (clock : Time) (first : Packet) (delay : TimeSpan) (rate : InformationRate) (bits : Information) where
-  keeps-start : tryTransmit l clock first delay rate bits .line .«on_line» .start ≡ l .«on_line» .start
+module _ (l : Line) (clock : Time) (first : Waiting) (delay : TimeSpan) (rate : InformationRate) where
+  keeps-start : tryTransmit l clock first delay rate .line .«on_line» .start ≡ l .«on_line» .start
   unfolding tryTransmit
   keeps-start =
       let P : Transmitted → Type 0 = λ t. t .line .«on_line» .start ≡ l .«on_line» .start in
@@ -111,7 +115,7 @@ module _ (s : Simulation) (p : InPlace s) (c : LinkActed) (e : c ≡ linkActed (
   link-start =
       let d = tryDeliver (s .line) (s .head .clock) (frontOf s) (s .network .loss) in
       subst (λ (x : LinkActed). x .line .«on_line» .start < 512) (sym e)
-      (subst (λ (x : ℕ). x < 512) (sym (keeps-start (d .line) (s .head .clock) (firstOf s) (spanOf (s .network .delay)) (rateOf (s .network .rate)) (amountOf (s .network .bits))))
+      (subst (λ (x : ℕ). x < 512) (sym (keeps-start (d .line) (s .head .clock) (firstOf s) (spanOf (s .network .delay)) (rateOf (s .network .rate))))
       (on-line-range (s .line) (s .head .clock) (frontOf s) (s .network .loss) (p .on-line-start) (p .on-line-count) .0))
 
 module _ (limit : Limit) (bits : ℕ) (l : Line) (x : Sending) (b : Arriving) (e : b ≡ arrivedAt limit bits l x) where
@@ -141,7 +145,7 @@ stored-slot slot d l n i full inside x q e = e ∙ ap slot (sym (getD-set-same l
 
 module _ (s : Simulation) (full : Full s) (k : ℕ) (ek : k ≡ ownerOf (frontOf s .packet)) (t : Turn s link 0)
     (c : LinkActed) (ec : c ≡ linkActed (s .network) (s .line) (s .head .clock) (frontOf s) (firstOf s)) (z : c .number ≡ 0)
-    (h : Hearing) (eh : h ≡ heardBy (s .network) (s .head .clock) (c .left) (senderAt s k) (meterAt s k)) where
+    (h : Hearing) (eh : h ≡ heardBy (s .network .policy) (senderBits (s .network) k .0) (s .head .clock) (c .left) (senderAt s k) (meterAt s k)) where
   pub link-stored : (new : Transit) → new ≡ onLineAt (c .begun) (getD (s .«on_line») (c .at) noTransit)
       → (q0 : Queued) → q0 ≡ linkSlot true (c .line) (s .head .clock) (getD (set (s .«on_line») (c .at) new) (c .line .«on_line» .start) noTransit) (getD (s .queue) 0 noQueued)
       → (q1 : Queued) → q1 ≡ senderSlot (h .heard) (h .sender) (s .head .clock) (getD (set (s .queue) 0 q0) (1 + 2 * k) noQueued)
@@ -168,8 +172,8 @@ module _ (s : Simulation) (full : Full s) (k : ℕ) (ek : k ≡ ownerOf (frontOf
       (t .tick ∙ ap (ticked s) (link-moves s k c ec (own-packet s (t .fits) (full .moving) k ek c ec) z h eh best (eb ∙ ap pickOf same)))
 
 module _ (s : Simulation) (full : Full s) (i : ℕ) (t : Turn s (sender i) i) (a : SenderActed) (ea : a ≡ senderActed (s .network) (s .head .clock) (senderAt s i) i) (y : a .number ≡ 0)
-    (b : Arriving) (eb : b ≡ arrivedAt (s .network .limit) (s .network .bits) (s .line) (a .sending)) (z : b .number ≡ 0) where
-  pub sender-stored : (new : Packet) → new ≡ waitingAt (b .admitted) (a .sending) (getD (s .waiting) (b .at) noPacket)
+    (b : Arriving) (eb : b ≡ arrivedAt (s .network .limit) (senderBits (s .network) i .0) (s .line) (a .sending)) (z : b .number ≡ 0) where
+  pub sender-stored : (new : Waiting) → new ≡ waitingAt (b .admitted) (senderBits (s .network) i .0) (a .sending) (getD (s .waiting) (b .at) noWaiting)
       → (q1 : Queued) → q1 ≡ senderSlot true (a .sender) (s .head .clock) (getD (s .queue) (1 + 2 * i) noQueued)
       → (q0 : Queued) → q0 ≡ linkSlot (b .arrives) (b .line) (s .head .clock) (getD (s .«on_line») (b .line .«on_line» .start) noTransit) (getD (set (s .queue) (1 + 2 * i) q1) 0 noQueued)
       → (best : Picked) → best ≡ pickOf (set (set (s .queue) (1 + 2 * i) q1) 0 q0)

@@ -1,7 +1,7 @@
 -- The loop of ticks: whose turn it is, what is in range then, and the equation that the loop keeps. Assumes nothing.
 use mathlib.Core.Path.{_≡_, refl, sym, ap, subst, _∙_}
 use mathlib.Core.Bool.{Bool, true, false, _&&_, cond, true≢false}
-use mathlib.Core.List.{List, [], _∷_}
+use mathlib.Core.List.{List, [], _∷_, map}
 use Prim.Native.Nat.{ℕ, suc, _+_, _*_, _-_, _≤_, _<_, _^_}
 use native.Mathlib.Omega.{arith}
 use lib.ListN.{length, set, length-set}
@@ -11,6 +11,7 @@ use borrow.Author.Tests.{leb-true, ltb-true, eqb-true, lt-ltb}
 use Rattle.quantities.specs.Doubles.{power}
 use Rattle.rand.specs.Draws.{unitOf}
 use Rattle.link.specs.declared.packet.Packet.{Packet}
+use Rattle.link.specs.declared.packet.Waiting.{Waiting}
 use Rattle.link.specs.declared.link.Left.{Left}
 use Rattle.link.specs.declared.link.Left.the-variants as Left
 use Rattle.link.specs.declared.link.Delivered.{Delivered}
@@ -25,12 +26,12 @@ use Rattle.remy.specs.declared.simulation.Next.the-variants as Next
 use Rattle.remy.specs.declared.simulation.Simulation.{Simulation}
 use Rattle.remy.specs.declared.simulation.TickRecord.{TickRecord}
 use Rattle.remy.specs.declared.simulation.Ticked.{Ticked}
-use Rattle.remy.specs.State.{Role, link, sender, toggler, roleOf, noPacket, frontOf, firstOf, waitingItems, totalBits}
-use Rattle.remy.specs.Fit.{ringsFit, bitsFit, fit}
+use Rattle.remy.specs.State.{Role, link, sender, toggler, roleOf, noWaiting, frontOf, firstOf, waitingItems, waitingPackets, onLinePackets, senderBits, packetBits, totalBits}
+use Rattle.remy.specs.Fit.{every, ringsFit, packetFit, packetsFit, bitsFit, carries, carriedFit, fit}
 use Rattle.remy.specs.Tick.{emptyRecord, moves, outcomeOf, actsOf, unmoved, ticked, tickNext, tickOf}
-use Rattle.remy.proofs.Facts.{both-l, both-r, fit-state}
+use Rattle.remy.proofs.Facts.{both-l, both-r, FitState, fit-state}
 use Rattle.remy.proofs.Networks.{few-senders, few-bits}
-use Rattle.remy.proofs.Front.{accepted, front-sender}
+use Rattle.remy.proofs.Front.{accepted, names-sender, front-sender}
 use Rattle.remy.proofs.Fresh.{role-elim}
 use Rattle.steady.proofs.Steady.{Steady, tick-steady}
 use Rattle.queueing.specs.declared.Now.{Now}
@@ -97,39 +98,47 @@ module _ (n d : ℕ) (r : TickRecord) (s : Simulation) where
 
 -- ---- what is in range in a fit state
 
-few-bits-of : (b : ℕ) (ps : List Packet) → b ≤ 16777216 → totalBits (λ p. b) ps ≤ length ps * 16777216
-few-bits-of b [] h = omega arith
-few-bits-of b (p ∷ ps) h = omega (arith, h, few-bits-of b ps h)
-
 pub record InPlace (s : Simulation) : Type 0 where
   pub waiting-start : s .line .waiting .start < 512
   pub waiting-count : s .line .waiting .count ≤ 512
   pub on-line-start : s .line .«on_line» .start < 512
   pub on-line-count : s .line .«on_line» .count ≤ 512
   pub senders : s .network .senders ≤ 16
-  pub room : s .line .«buffer_contains» .0 + s .network .bits < 2 ^ 64
 
 pub in-place : (s : Simulation) → fit s ≡ true → InPlace s
-unfolding ringsFit bitsFit
+unfolding ringsFit
 in-place s e =
     let f = fit-state s e in
     let a = leb (s .line .waiting .count) places in
     let b = leb (s .line .«on_line» .count) places in
     let c = ltb (s .line .waiting .start) places in
     let d = ltb (s .line .«on_line» .start) places in
-    let count : s .line .waiting .count ≤ 512 = leb-true _ _ (both-l a b (both-l (a && b) c (both-l (a && b && c) d (f .rings)))) in
-    let net = accepted s f in
-    let bits : s .network .bits ≤ 16777216 = few-bits net in
-    let held : s .line .«buffer_contains» .0 ≡ totalBits (λ p. s .network .bits) (waitingItems s) = eqb-true _ _ (f .bits) in
-    let many : length (waitingItems s) ≡ s .line .waiting .count = items-length noPacket (s .waiting) (s .line .waiting) in
     record {
       waiting-start = ltb-true _ _ (both-r (a && b) c (both-l (a && b && c) d (f .rings)));
-      waiting-count = count;
+      waiting-count = leb-true _ _ (both-l a b (both-l (a && b) c (both-l (a && b && c) d (f .rings))));
       on-line-start = ltb-true _ _ (both-r (a && b && c) d (f .rings));
       on-line-count = leb-true _ _ (both-r a b (both-l (a && b) c (both-l (a && b && c) d (f .rings))));
-      senders = few-senders net;
-      room = omega (arith, count, bits, held, many, few-bits-of (s .network .bits) (waitingItems s) bits);
+      senders = few-senders (accepted s f);
     }
+
+-- the bits that waiting packets carry, each its sender's
+carried-few : (s : Simulation) → FitState s → (xs : List Waiting) → every (carries s) xs ≡ true → every (packetFit s) (map (λ x. x .packet) xs) ≡ true → totalBits xs ≤ length xs * 16777216
+carried-few s f [] own named = omega arith
+carried-few s f (x ∷ xs) own named =
+    let same : x .bits .0 ≡ packetBits (s .network) (x .packet) .0 = eqb-true _ _ (both-l (carries s x) (every (carries s) xs) own) in
+    let there = names-sender s f (x .packet) (both-l (packetFit s (x .packet)) (every (packetFit s) (map (λ y. y .packet) xs)) named) in
+    let rest = carried-few s f xs (both-r (carries s x) (every (carries s) xs) own) (both-r (packetFit s (x .packet)) (every (packetFit s) (map (λ y. y .packet) xs)) named) in
+    omega (arith, same, few-bits (accepted s f) (x .packet .sender) there, rest)
+
+-- a sender's packet finds room in the waiting bits
+pub room : (s : Simulation) → fit s ≡ true → (i : ℕ) → i < s .network .senders → s .line .«buffer_contains» .0 + senderBits (s .network) i .0 < 2 ^ 64
+unfolding bitsFit packetsFit carriedFit
+room s e i h =
+    let f = fit-state s e in
+    let held : s .line .«buffer_contains» .0 ≡ totalBits (waitingItems s) = eqb-true _ _ (f .bits) in
+    let many : length (waitingItems s) ≡ s .line .waiting .count = items-length noWaiting (s .waiting) (s .line .waiting) in
+    let few = carried-few s f (waitingItems s) (f .carried) (both-l (every (packetFit s) (waitingPackets s)) (every (packetFit s) (onLinePackets s)) (f .packets)) in
+    omega (arith, in-place s e .waiting-count, held, many, few, few-bits (accepted s f) i h)
 
 -- the packet that leaves is its owner's
 pub own-packet : (s : Simulation) → fit s ≡ true → length (s .«on_line») ≡ 512 → (k : ℕ) → k ≡ ownerOf (frontOf s .packet)

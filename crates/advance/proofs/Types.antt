@@ -17,7 +17,7 @@ use Rattle.quantities.specs.NewTime.{Double}
 use Rattle.quantities.proofs.time.Time as T
 use Rattle.quantities.proofs.time.OptionTime as O
 use Rattle.link.specs.declared.packet.Transit.{Transit}
-use Rattle.link.proofs.packet.Packet as Packet
+use Rattle.link.proofs.packet.Waiting as Waiting
 use Rattle.link.proofs.packet.Transit as Transit
 use Rattle.meters.proofs.meter.AverageFlowMeter as Meter
 use Rattle.sender.specs.declared.lossy.SenderState.{SenderState}
@@ -82,7 +82,7 @@ typed s vs p =
     record {
       full =
           record {
-            waiting = full-array Packet.the-field 512 (s .waiting) _ (p .1 .1 .1 .1 .1 .0);
+            waiting = full-array Waiting.the-field 512 (s .waiting) _ (p .1 .1 .1 .1 .1 .0);
             moving = full-array Transit.the-field 512 (s .«on_line») _ (p .1 .1 .1 .1 .1 .1 .0);
             senders = full-array Sender.the-field 16 (s .senders) _ (p .1 .1 .1 .1 .1 .1 .1 .0);
             togglers = full-array Toggler.the-field 16 (s .togglers) _ (p .1 .1 .1 .1 .1 .1 .1 .1 .0);

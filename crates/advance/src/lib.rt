@@ -16,11 +16,14 @@ pub struct Advanced {
 }
 
 // Ticks until n are done, idle or refused. Each arm reads what its turn needs, works out what comes
-// of it, and stores it; where nothing changes, what was there is stored again.
+// of it, and stores it; where nothing changes, what was there is stored again. No tick changes the
+// network, so the senders' packet bits are read from a copy that is made once.
 pub fn advance(simulation: Simulation, n: u32) -> Advanced
     ensures { λ r. ⌜ r ≡ advanceOf n 0 emptyRecord simulation ⌝ }
 {
     let steady = fitness::is_steady(simulation);
+    let network = simulation.network;
+    let sizes = network.bits;
     let mut st = simulation;
     let mut done = 0;
     let mut note = turns::empty_record();
@@ -63,7 +66,9 @@ pub fn advance(simulation: Simulation, n: u32) -> Advanced
                 let begun = acts.begun;
                 let after = acts.line;
                 let at = acts.at;
-                let hearing = turns::hear(network, clock, left, sender, meter);
+                let policy = network.policy;
+                let bits = sizes[receiver];
+                let hearing = turns::hear(policy, bits, clock, left, sender, meter);
                 let heard = hearing.sender;
                 let counted = hearing.meter;
                 let old = st.on_line[at];
@@ -108,7 +113,8 @@ pub fn advance(simulation: Simulation, n: u32) -> Advanced
                 let sending = acts.sending;
                 let sent = acts.sender;
                 let limit = network.limit;
-                let arrival = turns::arrive(limit, network.bits, line, sending);
+                let bits = sizes[i];
+                let arrival = turns::arrive(limit, bits, line, sending);
                 if arrival.number != 0 {
                     let empty = turns::empty_record();
                     return Advanced {
@@ -121,7 +127,7 @@ pub fn advance(simulation: Simulation, n: u32) -> Advanced
                 let after = arrival.line;
                 let at = arrival.at;
                 let old = st.waiting[at];
-                let new = turns::waiting_at(arrival.admitted, sending, old);
+                let new = turns::waiting_at(arrival.admitted, bits, sending, old);
                 st.line = after;
                 st.waiting[at] = new;
                 st.senders[i] = sent;

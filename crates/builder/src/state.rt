@@ -3,8 +3,8 @@ ghost use Rattle.remy.specs.State.{withHead};
 ghost use Rattle.remy.specs.Build.{unqueued, emptySimulation};
 ghost use Rattle.parts.specs.Parts.{partsOf};
 use meters::AverageFlowMeter;
-use parts::blank_packet;
 use parts::blank_transit;
+use parts::blank_waiting;
 use parts::empty_network;
 use parts::empty_words;
 use parts::new_line;
@@ -31,13 +31,13 @@ pub(crate) fn fresh(
     ensures { λ r. ⌜ r ≡ withHead (unqueued network link (partsOf senders togglers)) head ⌝ }
 {
     let line = new_line(link);
-    let packet = blank_packet();
+    let waits = blank_waiting();
     let transit = blank_transit();
     let meter = AverageFlowMeter::new_disabled();
     let place = Queued {
         time: OptionTime::None,
     };
-    let waiting = [packet; 512];
+    let waiting = [waits; 512];
     let on_line = [transit; 512];
     let meters = [meter; 16];
     let queue = [place; 33];

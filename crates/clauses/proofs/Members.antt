@@ -1,7 +1,7 @@
--- The tests of a packet and of a transit by what decides them, and the loops over the senders and over the places of the queue. Assumes nothing.
+-- The tests of a packet and of what holds one by what decides them, and the loops over the senders and over the places of the queue. Assumes nothing.
 use Prim.Native.Nat.{ℕ, _+_, _≤_, _<_}
 use mathlib.Core.Path.{_≡_, refl, sym, ap, _∙_}
-use mathlib.Core.Bool.{Bool, true, false, not}
+use mathlib.Core.Bool.{Bool, true, false, not, _&&_}
 use mathlib.Core.List.{List}
 use lib.ListN.{getD}
 use borrow.Author.Tests.{lt-ltb, le-ltb}
@@ -10,7 +10,6 @@ use Rattle.quantities.specs.declared.time.OptionTime.{OptionTime}
 use Rattle.meters.specs.declared.meter.AverageFlowMeter.{AverageFlowMeter}
 use Rattle.meters.specs.Meter.{isOn}
 use Rattle.link.specs.declared.packet.Packet.{Packet}
-use Rattle.link.specs.declared.packet.Transit.{Transit}
 use Rattle.link.specs.declared.link.Line.{Line}
 use Rattle.sender.specs.declared.lossy.Policy.{Policy}
 use Rattle.sender.specs.declared.lossy.LossySender.{LossySender}
@@ -19,9 +18,8 @@ use Rattle.toggler.specs.declared.tick_queue.Queued.{Queued}
 use Rattle.toggler.specs.Queue.{noQueued}
 use Rattle.remy.specs.declared.simulation.Next.{Next}
 use Rattle.remy.specs.State.{noSender, noToggler, noMeter}
-use Rattle.remy.specs.Fit.{held}
-use Rattle.clauses.specs.Tests.{sentTest, packetTest, transitTest, senderTest, sendersTest, placeTest, emptyTest, partTime, placesTest}
-use Rattle.clauses.proofs.Turns.{up-goes, up-stops, up-done, up-same}
+use Rattle.ranges.proofs.UpTo.{up-goes, up-stops, up-done, up-same}
+use Rattle.clauses.specs.Tests.{sentTest, packetTest, senderTest, sendersTest, placeTest, emptyTest, partTime, placesTest}
 
 -- ---- packets
 
@@ -34,25 +32,24 @@ module _ (senders : List LossySender) (n : ℕ) (clock : Time) (p : Packet) wher
   unfolding packetTest
   packet-is h r e = rw (lt-ltb _ _ h, e)
 
-module _ (senders : List LossySender) (n : ℕ) (clock : Time) (x : Transit) where
-  pub transit-unfit : packetTest senders n clock (x .packet) ≡ false → transitTest senders n clock x ≡ false
-  unfolding transitTest
-  transit-unfit e = rw e
+-- two tests in a row, as of a packet and of what holds it
+module _ (a b : Bool) where
+  pub first-fails : a ≡ false → (a && b) ≡ false
+  first-fails e = rw e
 
-  pub transit-is : packetTest senders n clock (x .packet) ≡ true → (r : Bool) → r ≡ held (x .due) → transitTest senders n clock x ≡ r
-  unfolding transitTest
-  transit-is e r h = rw (e, h)
+  pub first-passes : a ≡ true → (r : Bool) → r ≡ b → (a && b) ≡ r
+  first-passes e r h = rw (e, h)
 
 -- ---- senders
 
-module _ (policy : Policy) (bits : ℕ) (clock : Time) (waiting onLine : ℕ → ℕ) (senders : List LossySender) (togglers : List Toggler) (meters : List AverageFlowMeter) where
+module _ (policy : Policy) (bits : ℕ → ℕ) (clock : Time) (waiting onLine : ℕ → ℕ) (senders : List LossySender) (togglers : List Toggler) (meters : List AverageFlowMeter) where
   pub senders-none : sendersTest policy bits clock waiting onLine 0 senders togglers meters ≡ true
   unfolding sendersTest
   senders-none = refl
 
   -- the i-th sender passes or fails
   module _ (i : ℕ) (r : Bool)
-      (er : r ≡ senderTest policy bits clock (getD senders i noSender) (getD togglers i noToggler) (getD meters i noMeter) (waiting i) (onLine i)) where
+      (er : r ≡ senderTest policy (bits i) clock (getD senders i noSender) (getD togglers i noToggler) (getD meters i noMeter) (waiting i) (onLine i)) where
     pub senders-goes : sendersTest policy bits clock waiting onLine i senders togglers meters ≡ true → r ≡ true
         → sendersTest policy bits clock waiting onLine (i + 1) senders togglers meters ≡ true
     unfolding sendersTest

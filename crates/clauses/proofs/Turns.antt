@@ -1,21 +1,21 @@
--- One turn of each loop, over plain variables: the members of a ring in order, and the numbers below a bound. Assumes nothing.
-use Prim.Native.Nat.{ℕ, zero, suc, _+_, _-_, _%_, _≤_, _<_}
+-- One turn of each loop over the members of a ring in order, over plain variables. Assumes nothing.
+use Prim.Native.Nat.{ℕ, zero, suc, _+_, _*_, _-_, _%_, _≤_, _<_}
 use mathlib.Core.Path.{_≡_, refl, sym, ap, subst, _∙_}
-use mathlib.Core.Logic.{inl, inr}
-use mathlib.Core.Bool.{Bool, true, false, _&&_, and-false}
+use mathlib.Core.Bool.{Bool, true, false, _&&_}
 use mathlib.Core.List.{List, [], _∷_}
 use native.Mathlib.Decide.{ℕ-discrete}
-use native.Mathlib.Nat.{zero-add, add-zero, add-assoc, not-suc-le-zero, eq-or-lt-of-le, le-of-suc-le-suc}
-use native.Mathlib.Numerals.{add-one}
+use native.Mathlib.Nat.{zero-add, add-zero, add-assoc}
 use native.Mathlib.Omega.{arith}
 use lib.Dec.{eqb}
 use lib.ListN.{length, getD, set, replicate, length-set, length-replicate, getD-replicate}
 use lib.Seq.{getD-set-same, getD-set-other}
 use lib.Ieee.{le}
 use borrow.Author.Tests.{eq-eqb, ne-eqb}
+use Rattle.link.specs.declared.packet.Waiting.{Waiting}
 use Rattle.link.specs.declared.packet.Transit.{Transit}
 use Rattle.link.specs.Ring.{places, itemsFrom}
-use Rattle.remy.specs.Fit.{every, upTo, rising}
+use Rattle.remy.specs.State.{totalBits}
+use Rattle.remy.specs.Fit.{every, rising}
 use Rattle.clauses.specs.Tests.{tally, Counts}
 
 -- ---- the members of a ring from the i-th on
@@ -129,8 +129,33 @@ module _ {A : Type 0} (owner : A → ℕ) (d : A) (slots : List A) (start count 
   pub counted-all : (counts : List ℕ) (i : ℕ) → Counted counts i → i ≤ 512 → count ≤ i → Counts (λ k. tally (of k) (itemsFrom d slots start count)) counts
   counted-all counts i c m h = record {
     each = λ k l. tally-done (of k) d slots start count i _ h ∙ c .all k l;
-    most = record { few = λ k l. let e = c .few k l in omega (arith, e) };
+    most = record { each = λ k l. let e = c .few k l in omega (arith, e) };
   }
+
+-- ---- the sum of the bits that the members carry
+
+module _ (d : Waiting) (slots : List Waiting) (start count : ℕ) where
+  -- after the first i members, of at most 2^24 bits each: the sum of their bits, and those of the rest, are all
+  pub record Summed (sum i : ℕ) : Type 0 where
+    pub few : sum ≤ i * 16777216
+    pub all : sum + totalBits (rest d slots start count i) ≡ totalBits (itemsFrom d slots start count)
+
+  pub summed-none : Summed 0 0
+  summed-none = record { few = omega arith; all = zero-add _ ∙ ap totalBits (rest-all d slots start count) }
+
+  module _ (sum i : ℕ) (s : Summed sum i) where
+    pub summed-one : i < count → (bits : ℕ) → getD slots ((start + i) % places) d .bits .0 ≡ bits → bits ≤ 16777216 → Summed (sum + bits) (i + 1)
+    summed-one h bits e small = record {
+      few = let few = s .few in omega (arith, few, small);
+      all = add-assoc sum bits _ ∙ ap (λ (n : ℕ). sum + n) (sym next) ∙ s .all;
+    }
+      where
+        next : totalBits (rest d slots start count i) ≡ bits + totalBits (rest d slots start count (i + 1))
+        next =
+            ap totalBits (rest-next d slots start count i h) ∙ ap (λ (n : ℕ). n + totalBits (rest d slots start count (i + 1))) e
+
+    pub summed-all : count ≤ i → totalBits (itemsFrom d slots start count) ≡ sum
+    summed-all h = sym (s .all) ∙ ap (λ (l : List Waiting). sum + totalBits l) (rest-none d slots start count i h) ∙ add-zero sum
 
 -- ---- due times that do not fall
 
@@ -159,26 +184,3 @@ module _ (d : Transit) (slots : List Transit) (start count i : ℕ) where
       short at zero k = refl
       short at (suc zero) k = refl
       short at (suc (suc n)) k = let no : ⊥ = omega arith in absurd no
-
--- ---- the numbers below a bound
-
-module _ (f : ℕ → Bool) where
-  pub up-goes : (i : ℕ) → upTo i f ≡ true → f i ≡ true → upTo (i + 1) f ≡ true
-  up-goes i e g = rw (add-one i, e, g)
-
-  up-fails : (n i : ℕ) → i < n → f i ≡ false → upTo n f ≡ false
-  up-fails zero i h e = absurd (not-suc-le-zero h)
-  up-fails (suc n) i h e = elim (eq-or-lt-of-le (le-of-suc-le-suc h)) [
-    | inl same ↦ ap (λ (t : Bool). upTo n f && t) (subst (λ (j : ℕ). f j ≡ false) same e) ∙ and-false (upTo n f)
-    | inr below ↦ rw (up-fails n i below e)
-  ]
-
-  pub up-stops : (n i : ℕ) → i < n → f i ≡ false → false ≡ upTo n f
-  up-stops n i h e = sym (up-fails n i h e)
-
-  pub up-done : (n i : ℕ) → upTo i f ≡ true → i ≤ n → n ≤ i → true ≡ upTo n f
-  up-done n i e h k = let same : n ≡ i = omega arith in rw (same, e)
-
-pub up-same : (f g : ℕ → Bool) (n : ℕ) → ((i : ℕ) → i < n → f i ≡ g i) → upTo n f ≡ upTo n g
-up-same f g zero e = refl
-up-same f g (suc n) e = rw (up-same f g n (λ i h. e i (omega arith)), e n (omega arith))

@@ -11,11 +11,13 @@ use lib.Ieee.{le}
 use Rattle.quantities.specs.declared.time.Time.{Time}
 use Rattle.quantities.specs.declared.time.OptionTime.{OptionTime}
 use Rattle.quantities.specs.declared.time.OptionTime.the-variants.{None, Some}
+use Rattle.quantities.specs.declared.information.Information.{Information}
 use Rattle.rand.specs.declared.generator.Rng.{Rng}
 use Rattle.rand.specs.Generator.{allZero}
 use Rattle.meters.specs.declared.meter.AverageFlowMeter.{AverageFlowMeter}
 use Rattle.meters.specs.Meter.{isOn, totalFit, sumFit}
 use Rattle.link.specs.declared.packet.Packet.{Packet}
+use Rattle.link.specs.declared.packet.Waiting.{Waiting}
 use Rattle.link.specs.declared.packet.Transit.{Transit}
 use Rattle.link.specs.declared.ring.Ring.{Ring}
 use Rattle.link.specs.declared.link.Line.{Line}
@@ -31,9 +33,9 @@ use Rattle.sender.specs.Sender.{senderNext}
 use Rattle.toggler.specs.Queue.{queuePlaces, noQueued}
 use Rattle.sender.specs.declared.lossy.SenderState.the-variants as State
 use Rattle.remy.specs.declared.simulation.Next.{Next}
-use Rattle.remy.specs.Network.{between, windowFit}
-use Rattle.remy.specs.State.{Role, link, sender, toggler, nobody, roleOf, noSender, noToggler, noMeter, noPacket, noTransit}
-use Rattle.remy.specs.Fit.{every, upTo, held, isNext, isTimed, senderOn, sameTime, rising}
+use Rattle.remy.specs.Network.{upTo, between, windowFit}
+use Rattle.remy.specs.State.{Role, link, sender, toggler, nobody, roleOf, noSender, noToggler, noMeter, noWaiting, noTransit, totalBits}
+use Rattle.remy.specs.Fit.{every, held, isNext, isTimed, senderOn, sameTime, rising}
 use Rattle.remy.specs.declared.simulation.Next.the-variants as Next
 use Rattle.ranges.specs.Frame.{pastTest}
 
@@ -55,9 +57,14 @@ packetTest senders n clock p = ltb (p .sender) n && sentTest (getD senders (p .s
 unfoldable pub transitTest : List LossySender → ℕ → Time → Transit → Bool
 transitTest senders n clock x = packetTest senders n clock (x .packet) && held (x .due)
 
--- the packets that wait, and those on the line
-unfoldable pub waitingTest : List LossySender → ℕ → Time → List Packet → Ring → Bool
-waitingTest senders n clock slots ring = every (packetTest senders n clock) (items noPacket slots ring)
+-- a packet that waits, with the bits of its sender's packets
+unfoldable pub waitsTest : List LossySender → List ℕ → ℕ → Time → Waiting → Bool
+waitsTest senders sizes n clock x = packetTest senders n clock (x .packet) && eqb (x .bits .0) (getD sizes (x .packet .sender) 0)
+
+-- the packets that wait, with the waiting bits, and those on the line
+unfoldable pub waitingTest : List LossySender → List ℕ → ℕ → Time → List Waiting → Ring → Information → Bool
+waitingTest senders sizes n clock slots ring contains =
+    every (waitsTest senders sizes n clock) (items noWaiting slots ring) && eqb (contains .0) (totalBits (items noWaiting slots ring))
 
 unfoldable pub onLineTest : List LossySender → ℕ → Time → List Transit → Ring → Bool
 onLineTest senders n clock slots ring = every (transitTest senders n clock) (items noTransit slots ring)
@@ -66,9 +73,9 @@ onLineTest senders n clock slots ring = every (transitTest senders n clock) (ite
 unfoldable pub dueTest : List Transit → Ring → Bool
 dueTest slots ring = rising (items noTransit slots ring)
 
-unfoldable pub packetsTest : List LossySender → ℕ → Time → List Packet → Ring → List Transit → Ring → Bool
-packetsTest senders n clock waiting waits onLine moves =
-    waitingTest senders n clock waiting waits && onLineTest senders n clock onLine moves && dueTest onLine moves
+unfoldable pub packetsTest : List LossySender → List ℕ → ℕ → Time → List Waiting → Ring → Information → List Transit → Ring → Bool
+packetsTest senders sizes n clock waiting waits contains onLine moves =
+    waitingTest senders sizes n clock waiting waits contains && onLineTest senders n clock onLine moves && dueTest onLine moves
 
 -- the first due time
 abbrev pub firstDue : List Transit → Ring → Time
@@ -80,20 +87,20 @@ tally f [] = 0
 tally f (x ∷ xs) = cond (f x) 1 0 + tally f xs
 
 -- a sender's packets that wait, and those on the line
-unfoldable pub waitingOf : ℕ → List Packet → Ring → ℕ
-waitingOf i slots ring = tally (λ p. eqb (p .sender) i) (items noPacket slots ring)
+unfoldable pub waitingOf : ℕ → List Waiting → Ring → ℕ
+waitingOf i slots ring = tally (λ x. eqb (x .packet .sender) i) (items noWaiting slots ring)
 
 unfoldable pub onLineOf : ℕ → List Transit → Ring → ℕ
 onLineOf i slots ring = tally (λ x. eqb (x .packet .sender) i) (items noTransit slots ring)
 
--- no count of the 16 senders is above the places of a ring
-pub record Few (counts : List ℕ) : Type 0 where
-  pub few : (i : ℕ) → i < 16 → getD counts i 0 ≤ 512
+-- the first n numbers are at most so much
+pub record AtMost (most n : ℕ) (numbers : List ℕ) : Type 0 where
+  pub each : (i : ℕ) → i < n → getD numbers i 0 ≤ most
 
--- the counts of the 16 senders in a ring: element i is sender i's; a packet of another sender is counted nowhere
+-- the counts of the 16 senders in a ring, at most its places: element i is sender i's; a packet of another sender is counted nowhere
 pub record Counts (of : ℕ → ℕ) (counts : List ℕ) : Type 0 where
   pub each : (i : ℕ) → i < 16 → getD counts i 0 ≡ of i
-  pub most : Few counts
+  pub most : AtMost 512 16 counts
 
 -- ---- a sender with its toggler and meter
 
@@ -140,13 +147,13 @@ senderTest policy bits clock s t m waiting onLine =
     && agreeTest (t .enabled) (s .state) (m .«current_start»)
     && wordsTest (s .rng) (t .rng)
 
--- the first n senders, where so many of sender i's packets wait and so many are on the line
-module _ (policy : Policy) (bits : ℕ) (clock : Time) (waiting onLine : ℕ → ℕ) where
+-- the first n senders, where sender i's packets have so many bits, so many of them wait and so many are on the line
+module _ (policy : Policy) (bits : ℕ → ℕ) (clock : Time) (waiting onLine : ℕ → ℕ) where
   unfoldable pub sendersTest : ℕ → List LossySender → List Toggler → List AverageFlowMeter → Bool
   sendersTest n senders togglers meters =
       upTo n
       (λ i.
-      senderTest policy bits clock (getD senders i noSender) (getD togglers i noToggler) (getD meters i noMeter) (waiting i) (onLine i))
+      senderTest policy (bits i) clock (getD senders i noSender) (getD togglers i noToggler) (getD meters i noMeter) (waiting i) (onLine i))
 
 -- ---- the queue
 

@@ -1,9 +1,11 @@
 ghost use mathlib.Core.Path.{_≡_};
 ghost use Prim.Native.Nat.{_≤_, _<_};
-ghost use Rattle.clauses.specs.Tests.{sentTest, waitingTest, onLineTest, dueTest, soonTest, packetsTest, waitingOf, onLineOf, Counts, firstDue};
+ghost use Rattle.clauses.specs.Tests.{AtMost, sentTest, waitingTest, onLineTest, dueTest, soonTest, packetsTest, waitingOf, onLineOf, Counts, firstDue};
 use link::Packet;
 use link::Ring;
 use link::Transit;
+use link::Waiting;
+use quantities::Information;
 use quantities::Time;
 use ranges::frame::past_fit;
 use ranges::frame::time_held;
@@ -24,25 +26,31 @@ fn sent_fit(sent: u32, clock: Time, packet: Packet) -> bool
     past_fit(clock, at)
 }
 
-// Whether each waiting packet is fit.
+// Whether each waiting packet is fit and carries its sender's bits, and the waiting bits are the sum of
+// what they carry. The sum cannot wrap: what is added is a sender's bits.
 //
 // A helper, and no entry point, as are the others here with a `requires`: the caller shows that there
-// are at most 16 senders, and that the rings' starts and counts are in their ranges.
+// are at most 16 senders, that their packets have at most 2^24 bits, and that the rings' starts and
+// counts are in their ranges.
 fn waiting_fit(
     senders: [LossySender; 16],
+    sizes: [u64; 16],
     n: u32,
     clock: Time,
-    waiting: [Packet; 512],
+    waiting: [Waiting; 512],
     ring: Ring,
+    contains: Information,
 ) -> bool
-    requires { ⌜ (n ≤ 16) × (ring .start < 512) × (ring .count ≤ 512) ⌝ }
-    ensures { λ r. ⌜ r ≡ waitingTest senders n clock waiting ring ⌝ }
+    requires { ⌜ (n ≤ 16) × AtMost 16777216 n sizes × (ring .start < 512) × (ring .count ≤ 512) ⌝ }
+    ensures { λ r. ⌜ r ≡ waitingTest senders sizes n clock waiting ring contains ⌝ }
 {
     let start = ring.start;
     let count = ring.count;
+    let mut sum: u64 = 0;
     let mut i = 0;
     while i < count {
-        let packet = waiting[(start + i) % 512];
+        let waits = waiting[(start + i) % 512];
+        let packet = waits.packet;
         let k = packet.sender;
         if k >= n {
             return false;
@@ -51,9 +59,14 @@ fn waiting_fit(
         if !sent_fit(sender.packets_sent, clock, packet) {
             return false;
         }
+        let size = sizes[k as usize];
+        if waits.bits.0 != size {
+            return false;
+        }
+        sum += size;
         i += 1;
     }
-    true
+    contains.0 == sum
 }
 
 // Whether each packet on the line is fit.
@@ -134,22 +147,25 @@ pub fn due_soon(on_line: [Transit; 512], ring: Ring, latest: Time) -> bool
     true
 }
 
-// Whether the packets that wait and those on the line are fit, and no due time falls.
+// Whether the packets that wait and those on the line are fit, with the waiting bits, and no due time
+// falls.
 //
-// A helper for `fitness`, and no entry point: `is_fit` has tested the senders' number and the rings.
+// A helper for `fitness`, and no entry point: `is_fit` has tested the network and the rings.
 pub fn packets_fit(
     senders: [LossySender; 16],
+    sizes: [u64; 16],
     n: u32,
     clock: Time,
-    waiting: [Packet; 512],
+    waiting: [Waiting; 512],
     waits: Ring,
+    contains: Information,
     on_line: [Transit; 512],
     moves: Ring,
 ) -> bool
-    requires { ⌜ (n ≤ 16) × (waits .start < 512) × (waits .count ≤ 512) × (moves .start < 512) × (moves .count ≤ 512) ⌝ }
-    ensures { λ r. ⌜ r ≡ packetsTest senders n clock waiting waits «on_line» moves ⌝ }
+    requires { ⌜ (n ≤ 16) × AtMost 16777216 n sizes × (waits .start < 512) × (waits .count ≤ 512) × (moves .start < 512) × (moves .count ≤ 512) ⌝ }
+    ensures { λ r. ⌜ r ≡ packetsTest senders sizes n clock waiting waits contains «on_line» moves ⌝ }
 {
-    if !waiting_fit(senders, n, clock, waiting, waits) {
+    if !waiting_fit(senders, sizes, n, clock, waiting, waits, contains) {
         return false;
     }
     if !on_line_fit(senders, n, clock, on_line, moves) {
@@ -173,7 +189,7 @@ pub fn first_due(on_line: [Transit; 512], ring: Ring) -> Time
 // How many packets of each sender wait; those of a sender from 16 on are counted nowhere.
 //
 // A helper for `fitness`, and no entry point: `is_fit` has tested the rings.
-pub fn waiting_counts(waiting: [Packet; 512], ring: Ring) -> [usize; 16]
+pub fn waiting_counts(waiting: [Waiting; 512], ring: Ring) -> [usize; 16]
     requires { ⌜ (ring .start < 512) × (ring .count ≤ 512) ⌝ }
     ensures { λ r. ⌜ Counts (λ k. waitingOf k waiting ring) r ⌝ }
 {
@@ -182,7 +198,8 @@ pub fn waiting_counts(waiting: [Packet; 512], ring: Ring) -> [usize; 16]
     let mut counts: [usize; 16] = [0; 16];
     let mut i = 0;
     while i < count {
-        let packet = waiting[(start + i) % 512];
+        let waits = waiting[(start + i) % 512];
+        let packet = waits.packet;
         let k = packet.sender as usize;
         if k < 16 {
             let c = counts[k];

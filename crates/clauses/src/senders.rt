@@ -4,7 +4,7 @@ ghost use Prim.Native.Nat.{_≤_};
 ghost use lib.ListN.{getD};
 ghost use Rattle.meters.specs.Meter.{isOn};
 ghost use Rattle.remy.specs.Fit.{isTimed, senderOn};
-ghost use Rattle.clauses.specs.Tests.{Few, timerTest, enabledTest, stateTest, startTest, meterTest, agreeTest, sentCountTest, wordsTest, senderTest, sendersTest};
+ghost use Rattle.clauses.specs.Tests.{AtMost, timerTest, enabledTest, stateTest, startTest, meterTest, agreeTest, sentCountTest, wordsTest, senderTest, sendersTest};
 use meters::AverageFlowMeter;
 use quantities::OptionTime;
 use quantities::Time;
@@ -206,13 +206,13 @@ fn sender_fit(
     words_fit(own, toggling)
 }
 
-// Whether the first n senders, with their togglers and meters, are fit, where element i of the counts
-// is how many of sender i's packets wait and how many are on the line.
+// Whether the first n senders, with their togglers and meters, are fit, where element i of the sizes is
+// the bits of sender i's packets, and of the counts how many of them wait and how many are on the line.
 //
 // A helper for `fitness`, and no entry point: `is_fit` has tested the network and counted over rings of 512 places.
 pub fn senders_fit(
     policy: Policy,
-    bits: u64,
+    sizes: [u64; 16],
     clock: Time,
     waiting: [usize; 16],
     on_line: [usize; 16],
@@ -221,8 +221,8 @@ pub fn senders_fit(
     togglers: [Toggler; 16],
     meters: [AverageFlowMeter; 16],
 ) -> bool
-    requires { ⌜ (bits ≤ 16777216) × (n ≤ 16) × Few waiting × Few «on_line» ⌝ }
-    ensures { λ r. ⌜ r ≡ sendersTest policy bits clock (λ i. getD waiting i 0) (λ i. getD «on_line» i 0) n senders togglers meters ⌝ }
+    requires { ⌜ (n ≤ 16) × AtMost 16777216 n sizes × AtMost 512 16 waiting × AtMost 512 16 «on_line» ⌝ }
+    ensures { λ r. ⌜ r ≡ sendersTest policy (λ i. getD sizes i 0) clock (λ i. getD waiting i 0) (λ i. getD «on_line» i 0) n senders togglers meters ⌝ }
 {
     let mut i: u32 = 0;
     while i < n {
@@ -232,6 +232,7 @@ pub fn senders_fit(
         let meter = meters[k];
         let a = waiting[k];
         let b = on_line[k];
+        let bits = sizes[k];
         if !sender_fit(policy, bits, clock, sender, toggler, meter, a, b) {
             return false;
         }

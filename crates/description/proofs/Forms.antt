@@ -1,11 +1,12 @@
--- A form after a key, two forms one after the other, and one or the other: what their readers answer. Assumes nothing.
+-- A form after a key, two forms one after the other, one or the other, and one with a further condition: what their readers answer. Assumes nothing.
 use Prim.Native.Nat.{ℕ}
 use mathlib.Core.List.{List, _++_, append-assoc}
 use mathlib.Core.Logic.{_⊎_, inl, inr}
-use mathlib.Core.Path.{_≡_, sym, ap, _∙_}
+use mathlib.Core.Path.{_≡_, sym, ap, _∙_, subst}
 use native.Mathlib.Omega.{arith}
 use lib.ListN.{drop, length-append}
 use Rattle.notation.specs.Reading.{Form, ReadResult, found, refused, Reads, Found, Absent, wordForm, keyed, pair, either}
+use Rattle.description.specs.Lines.{such}
 
 -- a value of the first form, then one of the second
 module _ {A B : Type 0} {F : Form A} {text : List ℕ} {at : ℕ} where
@@ -73,3 +74,14 @@ module _ {A B : Type 0} (F : Form A) (G : Form B) {text : List ℕ} {at : ℕ} w
       one : (w : A ⊎ B) (rest : List ℕ) → drop at text ≡ either F G .text w ++ rest → either F G .fits w → (w ≡ inr b) × (rest ≡ drop next text)
       one (inl x) rest e h = absurd (f .none x rest e h)
       one (inr y) rest e h = let u = g .only y rest e h in (ap inr (u .0), u .1)
+
+-- a value of a form of which a further condition is asked
+module _ {A : Type 0} {F : Form A} (P : A → Type 0) {text : List ℕ} {at : ℕ} where
+  pub such-absent : Absent F text at → Absent (such F P) text at
+  such-absent f = record { none = λ w rest e h. f .none w rest e (h .0) }
+
+  pub such-not : {v : A} {next : ℕ} → Found F text at v next → (P v → ⊥) → Absent (such F P) text at
+  such-not f other = record { none = λ w rest e h. other (subst P (f .only w rest e (h .0) .0) (h .1)) }
+
+  pub such-found : {v : A} {next : ℕ} → Found F text at v next → P v → Found (such F P) text at v next
+  such-found f p = record { fits = (f .fits, p); here = f .here; count = f .count; only = λ w rest e h. f .only w rest e (h .0) }

@@ -1,5 +1,6 @@
 mod Forms
 mod Cases
+mod Sizes
 mod Whole
 pub mod Short
 mod Examples

@@ -1,10 +1,14 @@
 -- The lines of a description as forms, and the answers of the functions that read them as outcomes. Definitions only.
-use Prim.Native.Nat.{ℕ, _-_, _^_}
-use mathlib.Core.List.{List}
+use Prim.Native.Nat.{ℕ, _+_, _-_, _^_, _≤_, _<_}
+use mathlib.Core.Bool.{Bool, true, false}
+use mathlib.Core.List.{List, [], _∷_, _++_}
 use mathlib.Core.Logic.{_⊎_, inl, inr}
+use mathlib.Core.Path.{_≡_}
+use lib.ListN.{length, set, replicate}
 use Rattle.notation.specs.Notation.{lf, colon}
 use Rattle.description.specs.Words.{delayKey, rateKey, lossKey, limitKey, bitsKey, sendersKey, onKey, offKey, policyKey, seedKey, ticksKey, noneLine, alwaysKey, uniformKey, heldKey, grownKey, timedKey}
-use Rattle.notation.specs.Reading.{Form, ReadResult, found, refused, wordForm, hexForm, decimalForm, keyed, pair, either, Spells}
+use Rattle.description.specs.Text.{joined, bitsText, bitsInWidth, Counted, placesOf}
+use Rattle.notation.specs.Reading.{Form, ReadResult, found, refused, Reads, wordForm, hexForm, decimalForm, keyed, pair, either, Spells}
 use Rattle.description.specs.declared.Limit.{Limit}
 use Rattle.description.specs.declared.Limit.the-variants as L
 use Rattle.description.specs.declared.Distribution.{Distribution}
@@ -13,6 +17,7 @@ use Rattle.description.specs.declared.Policy.{Policy}
 use Rattle.description.specs.declared.Policy.the-variants.{Held, Grown, Timed}
 use Rattle.description.specs.declared.Description.{Description}
 use Rattle.description.specs.declared.lines.Link.{Link}
+use Rattle.description.specs.declared.lines.Sizes.{Sizes}
 use Rattle.description.specs.declared.lines.Load.{Load}
 use Rattle.description.specs.declared.lines.Course.{Course}
 use Rattle.description.specs.declared.lines.Kind.{Kind}
@@ -36,6 +41,15 @@ use Rattle.description.specs.declared.lines.CourseAt.the-variants as C
 abbrev pub ForWord : ℕ → (List ℕ → Type 0) → Type 0
 ForWord word P = (w : List ℕ) → Spells 0 w word → P w
 
+-- a form of which a further condition is asked
+abbrev pub such : {A : Type 0} → Form A → (A → Type 0) → Form A
+such F P = record { text = F .text; fits = λ v. F .fits v × P v }
+
+-- a test's answer is whether P holds
+pub record Tells (P : Type 0) (answer : Bool) : Type 0 where
+  pub yes : answer ≡ true → P
+  pub no : answer ≡ false → P → ⊥
+
 -- the greatest number of 64 and of 32 bits
 abbrev pub most64 : ℕ
 most64 = 2 ^ 64 - 1
@@ -58,6 +72,13 @@ limitForm = keyed limitKey (either (wordForm noneLine) (decimalForm most64 lf))
 abbrev pub limitCase : Limit → Unit {0} ⊎ ℕ
 limitCase L.None = inl tt
 limitCase (L.Bits n) = inr n
+
+-- bits
+abbrev pub sizesForm : Form (List ℕ)
+sizesForm = record { text = λ vs. joined vs ++ (lf ∷ []); fits = λ vs. (0 < length vs) × bitsInWidth vs }
+
+abbrev pub bitsForm : Form (List ℕ)
+bitsForm = such (keyed bitsKey sizesForm) (λ vs. length (bitsText vs) ≤ 512)
 
 -- on and off
 abbrev pub alwaysForm : Form ℕ
@@ -102,10 +123,10 @@ abbrev pub linkForm : Form LinkCases
 linkForm = pair (keyed delayKey (hexForm lf)) (pair (keyed rateKey (hexForm lf)) (pair (keyed lossKey (hexForm lf)) limitForm))
 
 abbrev pub LoadCases : Type 0
-LoadCases = ℕ × (ℕ × ((ℕ ⊎ (ℕ × ℕ)) × (ℕ ⊎ (ℕ × ℕ))))
+LoadCases = ℕ × ((ℕ ⊎ (ℕ × ℕ)) × (ℕ ⊎ (ℕ × ℕ)))
 
 abbrev pub loadForm : Form LoadCases
-loadForm = pair (keyed bitsKey (decimalForm most64 lf)) (pair (keyed sendersKey (decimalForm most32 lf)) (pair (distributionForm onKey) (distributionForm offKey)))
+loadForm = pair (keyed sendersKey (decimalForm most32 lf)) (pair (distributionForm onKey) (distributionForm offKey))
 
 abbrev pub CourseCases : Type 0
 CourseCases = (ℕ ⊎ ((ℕ × ℕ) ⊎ (ℕ × ℕ))) × (ℕ × ℕ)
@@ -135,24 +156,40 @@ linked (K.At v next) = found (v .delay, (v .rate, (v .loss, limitCase (v .limit)
 linked K.Refused = refused
 
 abbrev pub loaded : LoadAt → ReadResult LoadCases
-loaded (O.At v next) = found (v .bits, (v .senders, (distributionCase (v .on), distributionCase (v .off)))) next
+loaded (O.At v next) = found (v .senders, (distributionCase (v .on), distributionCase (v .off))) next
 loaded O.Refused = refused
 
 abbrev pub coursed : CourseAt → ReadResult CourseCases
 coursed (C.At v next) = found (policyCase (v .policy), (v .seed, v .ticks)) next
 coursed C.Refused = refused
 
--- the whole description
-abbrev pub wholeForm : Form (LinkCases × (LoadCases × CourseCases))
-wholeForm = pair linkForm (pair loadForm courseForm)
+-- the values of `bits` with one more; the answer for the values of the line, and for what is no such line
+abbrev pub withValue : Sizes → ℕ → ℕ → Sizes
+withValue s v next = record { count = s .count + 1; values = set (s .values) (s .count) v; next = next }
 
-abbrev pub gatheredOf : Link → Load → Course → Description
-gatheredOf k o c = record {
+abbrev pub sized : ReadResult (List ℕ) → Sizes
+sized (found vs next) = record { count = length vs; values = placesOf vs; next = next }
+sized refused = record { count = 0; values = replicate 16 0; next = 0 }
+
+pub record ReadsBits (text : List ℕ) (at : ℕ) (r : Sizes) : Type 0 where
+  pub outcome : ReadResult (List ℕ)
+  pub reads : Reads bitsForm text at outcome
+  pub answer : r ≡ sized outcome
+
+-- the whole description
+abbrev pub WholeCases : Type 0
+WholeCases = LinkCases × (List ℕ × (LoadCases × CourseCases))
+
+abbrev pub wholeForm : Form WholeCases
+wholeForm = such (pair linkForm (pair bitsForm (pair loadForm courseForm))) (λ v. Counted (length (v .1 .0)) (v .1 .1 .0 .0))
+
+abbrev pub gatheredOf : Link → List ℕ → Load → Course → Description
+gatheredOf k bits o c = record {
   delay = k .delay;
   rate = k .rate;
   loss = k .loss;
   limit = k .limit;
-  bits = o .bits;
+  bits = bits;
   senders = o .senders;
   on = o .on;
   off = o .off;

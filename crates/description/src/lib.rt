@@ -1,6 +1,6 @@
 // The text of a description of a network, read (document 01, "The text program").
 ghost use mathlib.Core.Path.{_≡_};
-ghost use Rattle.description.specs.Text.{ReadIs};
+ghost use Rattle.description.specs.Text.{ReadIs, answerOf, malformed};
 ghost use Rattle.description.specs.Lines.{gatheredOf};
 
 mod lines;
@@ -11,6 +11,8 @@ use lines::Link;
 use lines::LinkAt;
 use lines::Load;
 use lines::LoadAt;
+use lines::bits_line;
+use lines::counted;
 use lines::course_lines;
 use lines::link_lines;
 use lines::load_lines;
@@ -37,7 +39,7 @@ pub struct Description {
     pub rate: u64,
     pub loss: u64,
     pub limit: Limit,
-    pub bits: u64,
+    pub bits: [u64; 16],
     pub senders: u32,
     pub on: Distribution,
     pub off: Distribution,
@@ -46,14 +48,15 @@ pub struct Description {
     pub ticks: u32,
 }
 
-pub enum ReadDescription {
-    Given(Description),
-    Malformed,
+// The number is 0 with the description of a text, and 15 with a blank one.
+pub struct ReadDescription {
+    pub number: u32,
+    pub description: Description,
 }
 
-// The description of the three groups of lines.
-fn gathered(link: Link, load: Load, course: Course) -> Description
-    ensures { λ r. ⌜ r ≡ gatheredOf link load course ⌝ }
+// The description of the three groups of lines and the packet bits.
+fn gathered(link: Link, bits: [u64; 16], load: Load, course: Course) -> Description
+    ensures { λ r. ⌜ r ≡ gatheredOf link bits load course ⌝ }
 {
     let limit = link.limit;
     let on = load.on;
@@ -64,7 +67,7 @@ fn gathered(link: Link, load: Load, course: Course) -> Description
         rate: link.rate,
         loss: link.loss,
         limit,
-        bits: load.bits,
+        bits,
         senders: load.senders,
         on,
         off,
@@ -74,23 +77,60 @@ fn gathered(link: Link, load: Load, course: Course) -> Description
     }
 }
 
+// The answer for a text that is no description.
+fn refused() -> ReadDescription
+    ensures { λ r. ⌜ r ≡ answerOf malformed ⌝ }
+{
+    let description = Description {
+        delay: 0,
+        rate: 0,
+        loss: 0,
+        limit: Limit::None,
+        bits: [0; 16],
+        senders: 0,
+        on: Distribution::Always(0),
+        off: Distribution::Always(0),
+        policy: Policy::Held(0),
+        seed: 0,
+        ticks: 0,
+    };
+    ReadDescription {
+        number: 15,
+        description,
+    }
+}
+
 // The description that a text is. Anything else is malformed, bytes after the last line included.
 pub fn read(text: &[u8]) -> ReadDescription
     ensures { λ r. ⌜ ReadIs (now (text .entry)) r ⌝ }
 {
     match link_lines(text, 0) {
-        LinkAt::At(link, a) => match load_lines(text, a) {
-            LoadAt::At(load, b) => match course_lines(text, b) {
-                CourseAt::At(course, end) => {
-                    if end < text.len() {
-                        return ReadDescription::Malformed;
+        LinkAt::At(link, a) => {
+            let sizes = bits_line(text, a);
+            if sizes.count == 0 {
+                return refused();
+            }
+            match load_lines(text, sizes.next) {
+                LoadAt::At(load, b) => match course_lines(text, b) {
+                    CourseAt::At(course, end) => {
+                        if !counted(sizes.count, load.senders) {
+                            return refused();
+                        }
+                        if end < text.len() {
+                            return refused();
+                        }
+                        let bits = sizes.values;
+                        let description = gathered(link, bits, load, course);
+                        ReadDescription {
+                            number: 0,
+                            description,
+                        }
                     }
-                    ReadDescription::Given(gathered(link, load, course))
-                }
-                CourseAt::Refused => ReadDescription::Malformed,
-            },
-            LoadAt::Refused => ReadDescription::Malformed,
-        },
-        LinkAt::Refused => ReadDescription::Malformed,
+                    CourseAt::Refused => refused(),
+                },
+                LoadAt::Refused => refused(),
+            }
+        }
+        LinkAt::Refused => refused(),
     }
 }

@@ -1,7 +1,10 @@
 // The lines of a description.
+ghost use Prim.Native.Nat.{_+_, _^_, _≤_, _<_};
 ghost use mathlib.Core.List.{[], _∷_};
+ghost use mathlib.Core.Path.{_≡_};
 ghost use Rattle.notation.specs.Reading.{Reads, NoDigit, numbered, keyed};
-ghost use Rattle.description.specs.Lines.{ForWord, twofold, limited, distributed, governed, linked, loaded, coursed, kindForm, twoForm, limitForm, distributionValue, distributionForm, policyForm, linkForm, loadForm, courseForm};
+ghost use Rattle.description.specs.Text.{Counted};
+ghost use Rattle.description.specs.Lines.{ForWord, Tells, twofold, limited, distributed, governed, linked, loaded, coursed, withValue, ReadsBits, kindForm, twoForm, limitForm, distributionValue, distributionForm, policyForm, linkForm, loadForm, courseForm};
 use crate::Distribution;
 use crate::Limit;
 use crate::Policy;
@@ -19,6 +22,9 @@ pub const MOST32: u64 = 0xffff_ffff;
 
 // Ticks are at most this.
 pub const MOST_TICKS: u64 = 65536;
+
+// The `bits` line has at most so many bytes without its LF.
+pub const MOST_LINE: usize = 512;
 
 // The words of a description, each as the number that has its bytes for its digits to the base 256.
 pub const DELAY: u64 = 0x64_65_6c_61_79_3d; // delay=
@@ -251,9 +257,87 @@ pub(crate) fn link_lines(text: &[u8], at: usize) -> LinkAt
     }
 }
 
-// The load: the packet's bits, the number of senders, and their on and off times.
+// What the `bits` line says: how many values it has, 0 where there is no such line, the numbers that a
+// description holds, and the position after the line.
+pub struct Sizes {
+    pub count: usize,
+    pub values: [u64; 16],
+    pub next: usize,
+}
+
+// One value more. The first 16 are kept.
+//
+// A helper within this crate: the caller gives fewer values than a text has bytes.
+fn with_value(sizes: Sizes, value: u64, next: usize) -> Sizes
+    requires { ⌜ sizes .count + 1 < 2 ^ 64 ⌝ }
+    ensures { λ r. ⌜ r ≡ withValue sizes value next ⌝ }
+{
+    let at = sizes.count;
+    let mut more = sizes;
+    more.count = at + 1;
+    more.next = next;
+    if at < 16 {
+        more.values[at] = value;
+        return more;
+    }
+    more
+}
+
+// bits: values joined by commas. One value is that of each sender.
+pub(crate) fn bits_line(text: &[u8], at: usize) -> Sizes
+    ensures { λ r. ⌜ ReadsBits (now (text .entry)) at r ⌝ }
+{
+    let none = Sizes {
+        count: 0,
+        values: [0; 16],
+        next: 0,
+    };
+    let Place::At(from) = key(text, at, BITS) else {
+        return none;
+    };
+    let mut sizes = none;
+    sizes.next = from;
+    loop {
+        match decimal(text, sizes.next, MOST64, b',') {
+            Number::At(v, next) => {
+                sizes = with_value(sizes, v, next);
+            }
+            Number::Refused => break,
+        }
+    }
+    match decimal(text, sizes.next, MOST64, b'\n') {
+        Number::At(v, next) => {
+            if MOST_LINE < next - at - 1 {
+                return none;
+            }
+            if sizes.count == 0 {
+                return Sizes {
+                    count: 1,
+                    values: [v; 16],
+                    next,
+                };
+            }
+            with_value(sizes, v, next)
+        }
+        Number::Refused => none,
+    }
+}
+
+// Whether so many values of `bits` are one, or one for each sender.
+//
+// A helper within this crate: the caller gives a count that is not 0.
+pub(crate) fn counted(count: usize, senders: u32) -> bool
+    requires { ⌜ 1 ≤ count ⌝ }
+    ensures { λ r. ⌜ Tells (Counted count senders) r ⌝ }
+{
+    if count == 1 {
+        return true;
+    }
+    count == senders as usize
+}
+
+// The load: the number of senders, and their on and off times.
 pub struct Load {
-    pub bits: u64,
     pub senders: u32,
     pub on: Distribution,
     pub off: Distribution,
@@ -267,24 +351,20 @@ pub enum LoadAt {
 pub(crate) fn load_lines(text: &[u8], at: usize) -> LoadAt
     ensures { λ r. ⌜ Reads loadForm (now (text .entry)) at (loaded r) ⌝ }
 {
-    match value(text, at, BITS, Kind::Whole(MOST64), b'\n') {
-        Number::At(bits, a) => match value(text, a, SENDERS, Kind::Whole(MOST32), b'\n') {
-            Number::At(n, b) => match distribution_line(text, b, ON) {
-                DistributionAt::At(on, c) => match distribution_line(text, c, OFF) {
-                    DistributionAt::At(off, next) => LoadAt::At(
-                        Load {
-                            bits,
-                            senders: n as u32,
-                            on,
-                            off,
-                        },
-                        next,
-                    ),
-                    DistributionAt::Refused => LoadAt::Refused,
-                },
+    match value(text, at, SENDERS, Kind::Whole(MOST32), b'\n') {
+        Number::At(n, a) => match distribution_line(text, a, ON) {
+            DistributionAt::At(on, b) => match distribution_line(text, b, OFF) {
+                DistributionAt::At(off, next) => LoadAt::At(
+                    Load {
+                        senders: n as u32,
+                        on,
+                        off,
+                    },
+                    next,
+                ),
                 DistributionAt::Refused => LoadAt::Refused,
             },
-            Number::Refused => LoadAt::Refused,
+            DistributionAt::Refused => LoadAt::Refused,
         },
         Number::Refused => LoadAt::Refused,
     }

@@ -24,12 +24,13 @@ fn main() {
 // A line of 8 bit/s with a delay of 1 s, where 8 bits may wait; one sender with packets of 8 bits,
 // off for 1 s, then on for 100 s, that may have 3 packets under way.
 fn network() -> RemyNetwork {
+    let bits = [8; 16];
     RemyNetwork {
         delay: 1.0,
         rate: 8.0,
         loss: 0.0,
         limit: Limit::Bits(8),
-        bits: 8,
+        bits,
         senders: 1,
         on: ContinuousDistribution::Always(100.0),
         off: ContinuousDistribution::Always(1.0),

@@ -12,9 +12,7 @@ use Rattle.remy.specs.Tick.{tickOf}
 use Rattle.remy.specs.Run.{runOf}
 use Rattle.remy.specs.Build.{buildOf}
 use Rattle.remy.proofs.Steps.{cond-elim}
-use Rattle.description.specs.declared.Description.{Description}
-use Rattle.description.specs.declared.ReadDescription.the-variants.{Given, Malformed}
-use Rattle.description.specs.Text.{textOf, InWidth}
+use Rattle.description.specs.Text.{Written, textOf, InWidth, given, malformed, descriptionOf, answerOf}
 use Rattle.printer.specs.Printing.{written}
 use Rattle.report.specs.declared.run.Stage.{Stage}
 use Rattle.report.specs.declared.run.Stage.the-variants as Stage
@@ -22,7 +20,7 @@ use Rattle.report.specs.declared.run.Report.{Report}
 use Rattle.filling.specs.declared.Filled.{Filled}
 use Rattle.report.specs.Network.{networkOf}
 use Rattle.lines.specs.Lines.{flowLines, flowCount, recordLines, endLines, runLines}
-use Rattle.report.specs.Report.{leftAt, leftOf, reportOf, ForText}
+use Rattle.report.specs.Report.{leftAt, leftOf, begunOf, answeredOf, reportOf, ForText}
 use Rattle.filling.specs.Filling.{Puts, puts, noneLeft, FilledIs}
 
 -- ---- how many lines
@@ -58,15 +56,15 @@ run-few n s =
 abbrev Few : Report → Type 0
 Few r = length (leftOf r) ≤ 65553
 
-given-few : (d : Description) → InWidth d → Few (reportOf (Given d))
-unfolding leftOf reportOf
-given-few d w =
-    let b = buildOf (networkOf d) (d .seed) in
-    cond-elim (λ (x : Stage). length (leftAt (b .simulation) x) ≤ 65553) (eqb (b .number) 0) (Stage.Ticks (d .ticks)) (Stage.Refused (b .number))
-    (λ e. let h = run-few (d .ticks) (b .simulation) in let k = w .ticks in omega (arith, h, k)) (λ e. omega arith)
+given-few : (w : Written) → InWidth w → Few (reportOf (given w))
+unfolding leftOf reportOf answeredOf begunOf answerOf
+given-few w i =
+    let b = buildOf (networkOf (descriptionOf w)) (w .seed) in
+    cond-elim (λ (x : Stage). length (leftAt (b .simulation) x) ≤ 65553) (eqb (b .number) 0) (Stage.Ticks (w .ticks)) (Stage.Refused (b .number))
+    (λ e. let h = run-few (w .ticks) (b .simulation) in let k = i .ticks in omega (arith, h, k)) (λ e. omega arith)
 
-malformed-few : Few (reportOf Malformed)
-unfolding leftOf reportOf
+malformed-few : Few (reportOf malformed)
+unfolding leftOf reportOf answeredOf answerOf
 malformed-few = omega arith
 
 pub text-few : (text : List ℕ) (r : Report) → ForText text (λ d. r ≡ reportOf d) → length (leftOf r) ≤ 65553
@@ -76,8 +74,8 @@ text-few text r w = by (leb (length (leftOf r)) 65553) refl
     by true e = leb-true _ _ e
     by false e =
         let many : Few r → ⊥ = λ h. true≢false (sym (le-leb _ _ h) ∙ e) in
-        let no : (d : Description) → text ≡ textOf d → InWidth d → ⊥ = λ d t k. many (subst Few (sym (w .given d t k)) (given-few d k)) in
-        absurd (many (subst Few (sym (w .other no)) malformed-few))
+        let none : (u : Written) → text ≡ textOf u → InWidth u → ⊥ = λ u t k. many (subst Few (sym (w .given u t k)) (given-few u k)) in
+        absurd (many (subst Few (sym (w .other none)) malformed-few))
 
 -- ---- a line at least
 

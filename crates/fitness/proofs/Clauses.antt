@@ -1,10 +1,9 @@
 -- Conjunctions and tests of every member, and the clauses of `fit` at one packet, at one sender and at one place of the queue: each group's test holds exactly where they all do.
 -- Assumes nothing.
 use Prim.Native.Nat.{ℕ, zero, suc, _+_, _*_, _<_}
-use mathlib.Core.Path.{_≡_, refl, sym, ap, _∙_}
+use mathlib.Core.Path.{_≡_, refl, sym, ap}
 use mathlib.Core.Bool.{Bool, true, false, not, _&&_, _||_, Bool·beq}
 use mathlib.Core.List.{List, [], _∷_, map}
-use native.Mathlib.Nat.{zero-mul, suc-mul, add-comm}
 use native.Mathlib.Omega.{arith}
 use lib.Dec.{leb, ltb, eqb}
 use Rattle.quantities.specs.declared.time.OptionTime.{OptionTime}
@@ -12,16 +11,14 @@ use Rattle.quantities.specs.declared.time.OptionTime.the-variants.{None, Some}
 use Rattle.rand.specs.Generator.{allZero}
 use Rattle.meters.specs.Meter.{isOn, totalFit, sumFit}
 use Rattle.link.specs.declared.packet.Packet.{Packet}
-use Rattle.link.specs.declared.packet.Transit.{Transit}
 use Rattle.sender.specs.declared.lossy.Policy.{Policy}
 use Rattle.sender.specs.declared.lossy.SenderState.{SenderState}
-use Rattle.link.specs.Ring.{itemsFrom}
 use Rattle.sender.specs.declared.lossy.SenderState.the-variants as State
 use Rattle.remy.specs.declared.simulation.Simulation.{Simulation}
-use Rattle.remy.specs.Network.{between, windowFit}
-use Rattle.remy.specs.State.{Role, link, sender, toggler, nobody, senderAt, togglerAt, meterAt, frontOf, totalBits}
+use Rattle.remy.specs.Network.{upTo, between, windowFit}
+use Rattle.remy.specs.State.{Role, link, sender, toggler, nobody, senderAt, togglerAt, meterAt, frontOf, senderBits}
 use Rattle.remy.specs.Queue.{ownTime}
-use Rattle.remy.specs.Fit.{every, upTo, packetFit, held, heldIfAny, heldSender, heldQueued, sinceStart, startedFit, meterStartFit, countOf, ackFit, heldWindowFit, isTimed, timerFit, senderOn}
+use Rattle.remy.specs.Fit.{every, packetFit, held, heldIfAny, heldSender, heldQueued, sinceStart, startedFit, meterStartFit, countOf, ackFit, heldWindowFit, isTimed, timerFit, senderOn}
 use Rattle.remy.proofs.Facts.{both-l, both-r, both-i}
 use Rattle.ranges.specs.Frame.{pastTest}
 use Rattle.clauses.specs.Tests.{sentTest, packetTest, tally, timerTest, enabledTest, stateTest, startTest, meterTest, agreeTest, sentCountTest, wordsTest, senderTest, roleTime, queuedTest}
@@ -68,19 +65,11 @@ pub upTo-i : (n : ℕ) (f : ℕ → Bool) → ((i : ℕ) → i < n → f i ≡ t
 upTo-i zero f all = refl
 upTo-i (suc n) f all = both-i (upTo n f) (f n) (upTo-i n f (λ i h. all i (omega arith))) (all n (omega arith))
 
--- ---- sums and counts
+-- ---- counts
 
-pub bits-product : (bits : ℕ) (d : Packet) (slots : List Packet) (at n : ℕ) → totalBits (λ p. bits) (itemsFrom d slots at n) ≡ n * bits
-bits-product bits d slots at zero = sym (zero-mul bits)
-bits-product bits d slots at (suc n) = ap (λ (k : ℕ). bits + k) (bits-product bits d slots (at + 1) n) ∙ add-comm bits (n * bits) ∙ sym (suc-mul n bits)
-
-pub count-tally : (i : ℕ) (xs : List Packet) → countOf i xs ≡ tally (λ p. eqb (p .sender) i) xs
-count-tally i [] = refl
-count-tally i (x ∷ xs) = rw (count-tally i xs)
-
-pub count-map : (i : ℕ) (xs : List Transit) → countOf i (map (λ x. x .packet) xs) ≡ tally (λ x. eqb (x .packet .sender) i) xs
-count-map i [] = refl
-count-map i (x ∷ xs) = rw (count-map i xs)
+pub count-map : {A : Type 0} (packet : A → Packet) (i : ℕ) (xs : List A) → countOf i (map packet xs) ≡ tally (λ x. eqb (packet x .sender) i) xs
+count-map packet i [] = refl
+count-map packet i (x ∷ xs) = rw (count-map packet i xs)
 
 -- ---- a packet
 
@@ -167,7 +156,7 @@ pub record SenderClauses (s : Simulation) (i w o : ℕ) : Type 0 where
   pub meter-start : meterStartFit s (meterAt s i .«current_start») ≡ true
   pub total : totalFit (meterAt s i .«total_time») ≡ true
   pub sum : sumFit (meterAt s i .records) (meterAt s i .«rtt_sum») ≡ true
-  pub bits : eqb (meterAt s i .total .0) (meterAt s i .records * s .network .bits) ≡ true
+  pub bits : eqb (meterAt s i .total .0) (meterAt s i .records * senderBits (s .network) i .0) ≡ true
   pub few : leb (senderAt s i .«packets_sent») 16777216 ≡ true
   pub records : leb (meterAt s i .records + w + o) (senderAt s i .«packets_sent») ≡ true
   pub toggler-on : Bool·beq (togglerAt s i .enabled) (senderOn (senderAt s i .state)) ≡ true
@@ -176,7 +165,7 @@ pub record SenderClauses (s : Simulation) (i w o : ℕ) : Type 0 where
   pub toggler-words : not (allZero (togglerAt s i .rng)) ≡ true
 
 module _ (s : Simulation) (i w o : ℕ) where
-  pub sender-clauses : senderTest (s .network .policy) (s .network .bits) (s .head .clock) (senderAt s i) (togglerAt s i) (meterAt s i) w o ≡ true
+  pub sender-clauses : senderTest (s .network .policy) (senderBits (s .network) i .0) (s .head .clock) (senderAt s i) (togglerAt s i) (meterAt s i) w o ≡ true
       → SenderClauses s i w o
   unfolding senderTest meterTest sentCountTest agreeTest wordsTest
   sender-clauses e =
@@ -186,7 +175,7 @@ module _ (s : Simulation) (i w o : ℕ) where
       let clock = s .head .clock in
       let A = stateTest (s .network .policy) clock (x .state) in
       let B = held (t .«next_toggle») in
-      let C = meterTest (s .network .bits) clock m in
+      let C = meterTest (senderBits (s .network) i .0) clock m in
       let D = sentCountTest (x .«packets_sent») (m .records) w o in
       let E = agreeTest (t .enabled) (x .state) (m .«current_start») in
       let g = and-2 (A && B && C && D && E) (wordsTest (x .rng) (t .rng)) e in
@@ -194,7 +183,7 @@ module _ (s : Simulation) (i w o : ℕ) where
       let k = and-2 (not (allZero (x .rng))) (not (allZero (t .rng))) (g .1) in
       let b =
       and-4 (startTest clock (m .«current_start»)) (totalFit (m .«total_time»)) (sumFit (m .records) (m .«rtt_sum»))
-      (eqb (m .total .0) (m .records * s .network .bits)) (a .2) in
+      (eqb (m .total .0) (m .records * senderBits (s .network) i .0)) (a .2) in
       let c = start-clauses s (m .«current_start») (b .0) in
       let d = and-2 (leb (x .«packets_sent») 16777216) (leb (m .records + w + o) (x .«packets_sent»)) (a .3) in
       let f = and-2 (Bool·beq (t .enabled) (senderOn (x .state))) (Bool·beq (senderOn (x .state)) (isOn (m .«current_start»))) (a .4) in
@@ -215,7 +204,7 @@ module _ (s : Simulation) (i w o : ℕ) where
       }
 
   pub clauses-sender : SenderClauses s i w o
-      → senderTest (s .network .policy) (s .network .bits) (s .head .clock) (senderAt s i) (togglerAt s i) (meterAt s i) w o ≡ true
+      → senderTest (s .network .policy) (senderBits (s .network) i .0) (s .head .clock) (senderAt s i) (togglerAt s i) (meterAt s i) w o ≡ true
   unfolding senderTest meterTest sentCountTest agreeTest wordsTest
   clauses-sender c =
       rw (

@@ -1,8 +1,8 @@
 -- The groups of tests together are `fit`; and what each result of a group says of it. Assumes nothing.
-use Prim.Native.Nat.{ℕ, _+_, _*_, _≤_, _<_}
+use Prim.Native.Nat.{ℕ, _+_, _≤_, _<_}
 use mathlib.Core.Path.{_≡_, refl, sym, ap, ap₂, _∙_}
 use mathlib.Core.Bool.{Bool, true, false, not, _&&_, _||_}
-use mathlib.Core.List.{List}
+use mathlib.Core.List.{List, map}
 use native.Mathlib.Omega.{arith}
 use lib.Dec.{leb, eqb}
 use lib.ListN.{getD}
@@ -12,50 +12,52 @@ use Rattle.quantities.specs.declared.time.OptionTime.the-variants.{Some}
 use Rattle.quantities.specs.Doubles.{zeroF}
 use Rattle.rand.specs.Generator.{allZero}
 use Rattle.link.specs.declared.packet.Packet.{Packet}
+use Rattle.link.specs.declared.packet.Waiting.{Waiting}
 use Rattle.link.specs.declared.packet.Transit.{Transit}
 use Rattle.toggler.specs.Queue.{queuePlaces}
 use Rattle.remy.specs.declared.simulation.Next.{Next}
 use Rattle.remy.specs.declared.simulation.Simulation.{Simulation}
-use Rattle.remy.specs.Network.{networkStop}
-use Rattle.remy.specs.State.{noPacket, roleOf, senderAt, togglerAt, meterAt, queuedAt, waitingItems, onLineItems, onLinePackets}
+use Rattle.remy.specs.Network.{upTo, networkStop}
+use Rattle.remy.specs.State.{roleOf, senderAt, togglerAt, meterAt, queuedAt, waitingItems, waitingPackets, onLineItems, onLinePackets, senderBits, totalBits}
 use Rattle.remy.specs.Queue.{nextTimeOf}
-use Rattle.remy.specs.Fit.{every, upTo, networkFit, ringsFit, packetFit, packetsFit, bitsFit, clockFit, held, heldIfAny, heldSender, heldQueued, isNext, heldTimesFit, sinceStart, startedFit, meterStartFit, pastFit, totalsFit, sumsFit, countOf, recordsFit, rising, dueFit, ackFit, countsFit, windowsFit, timersFit, togglersAgree, metersAgree, meterBitsFit, sameTime, nextFit, queueFit, fit}
+use Rattle.remy.specs.Fit.{every, networkFit, ringsFit, packetFit, packetsFit, bitsFit, clockFit, held, heldIfAny, heldSender, heldQueued, isNext, heldTimesFit, sinceStart, startedFit, meterStartFit, pastFit, totalsFit, sumsFit, countOf, recordsFit, rising, dueFit, ackFit, countsFit, windowsFit, timersFit, togglersAgree, metersAgree, meterBitsFit, sameTime, nextFit, queueFit, carries, carriedFit, fit}
 use Rattle.remy.proofs.Facts.{FitState, fit-state, FitWords, words-apart, words-joined, both-l, both-r, both-i, upTo-at}
 use Rattle.remy.specs.declared.simulation.Next.the-variants as Next
 use Rattle.ranges.specs.Frame.{ringsTest, clockHeld, frameTest}
-use Rattle.clauses.specs.Tests.{packetTest, transitTest, waitingTest, onLineTest, dueTest, packetsTest, firstDue, waitingOf, onLineOf, Counts, sendersTest, partTime, placeTest, emptyTest, nextTest, placesTest, queueTest}
+use Rattle.clauses.specs.Tests.{packetTest, waitsTest, transitTest, waitingTest, onLineTest, dueTest, packetsTest, firstDue, waitingOf, onLineOf, Counts, sendersTest, partTime, placeTest, emptyTest, nextTest, placesTest, queueTest}
 use Rattle.clauses.proofs.Members.{senders-same}
-use Rattle.fitness.proofs.Clauses.{same-test, and-2, and-3, and-4, and-5, every-imp, every-and, every-map, upTo-i, bits-product, count-tally, count-map, packet-clauses, clauses-packet, SenderClauses, sender-clauses, clauses-sender, own-same, queued-same}
+use Rattle.fitness.proofs.Clauses.{same-test, and-2, and-3, and-4, and-5, every-imp, every-and, every-map, upTo-i, count-map, packet-clauses, clauses-packet, SenderClauses, sender-clauses, clauses-sender, own-same, queued-same}
 
 module _ (s : Simulation) where
   -- ---- the groups' tests of the state
 
-  abbrev frame : Bool
+  abbrev pub frame : Bool
   frame = frameTest (s .network) (s .head) (s .line)
 
-  abbrev packets : Bool
-  packets = packetsTest (s .senders) (s .network .senders) (s .head .clock) (s .waiting) (s .line .waiting) (s .«on_line») (s .line .«on_line»)
+  abbrev pub packets : Bool
+  packets =
+      packetsTest (s .senders) (s .network .bits) (s .network .senders) (s .head .clock) (s .waiting) (s .line .waiting) (s .line .«buffer_contains») (s .«on_line»)
+      (s .line .«on_line»)
 
-  -- the packets of sender i that wait, and those on the line
+  -- the bits of sender i's packets, those that wait, and those on the line
+  abbrev sizes : ℕ → ℕ
+  sizes i = senderBits (s .network) i .0
+
   abbrev waits-of : ℕ → ℕ
   waits-of i = waitingOf i (s .waiting) (s .line .waiting)
 
   abbrev moves-of : ℕ → ℕ
   moves-of i = onLineOf i (s .«on_line») (s .line .«on_line»)
 
-  abbrev senders : Bool
+  abbrev pub senders : Bool
   senders =
-      sendersTest (s .network .policy) (s .network .bits) (s .head .clock) waits-of moves-of (s .network .senders) (s .senders) (s .togglers) (s .meters)
+      sendersTest (s .network .policy) sizes (s .head .clock) waits-of moves-of (s .network .senders) (s .senders) (s .togglers) (s .meters)
 
   abbrev queue : Bool
   queue =
       queueTest (s .network .senders) (s .line) (s .head .clock) (firstDue (s .«on_line») (s .line .«on_line»)) (s .senders) (s .togglers) (s .queue) (s .head .next)
 
   -- ---- network, head and line
-
-  bits-same : bitsFit s ≡ eqb (s .line .«buffer_contains» .0) (s .line .waiting .count * s .network .bits)
-  unfolding bitsFit
-  bits-same = ap (eqb (s .line .«buffer_contains» .0)) (bits-product (s .network .bits) noPacket (s .waiting) (s .line .waiting .start) (s .line .waiting .count))
 
   rings-same : ringsTest (s .line) ≡ ringsFit s
   unfolding ringsTest ringsFit
@@ -64,7 +66,6 @@ module _ (s : Simulation) where
   record Frame : Type 0 where
     network : networkFit s ≡ true
     rings : ringsFit s ≡ true
-    bits : bitsFit s ≡ true
     clock : clockFit s ≡ true
     clock-held : clockHeld (s .head) ≡ true
     earliest : held (s .line .«earliest_transmit») ≡ true
@@ -75,97 +76,105 @@ module _ (s : Simulation) where
   from-frame e =
       let a = eqb (networkStop (s .network)) 0 in
       let b = ringsTest (s .line) in
-      let c = eqb (s .line .«buffer_contains» .0) (s .line .waiting .count * s .network .bits) in
-      let d = le zeroF (s .head .clock .0 .0) in
-      let f = clockHeld (s .head) in
-      let g = held (s .line .«earliest_transmit») in
-      let x = and-4 (a && b && c && d) f g (not (allZero (s .line .rng))) e in
-      let y = and-4 a b c d (x .0) in
-      record { network = y .0; rings = sym rings-same ∙ y .1; bits = bits-same ∙ y .2; clock = y .3; clock-held = x .1; earliest = x .2; words = x .3 }
+      let c = le zeroF (s .head .clock .0 .0) in
+      let d = clockHeld (s .head) in
+      let f = held (s .line .«earliest_transmit») in
+      let x = and-4 (a && b && c) d f (not (allZero (s .line .rng))) e in
+      let y = and-3 a b c (x .0) in
+      record { network = y .0; rings = sym rings-same ∙ y .1; clock = y .2; clock-held = x .1; earliest = x .2; words = x .3 }
 
   to-frame : Frame → frame ≡ true
   unfolding frameTest networkFit clockFit
-  to-frame f = rw (f .network, rings-same ∙ f .rings, sym bits-same ∙ f .bits, f .clock, f .clock-held, f .earliest, f .words)
+  to-frame f = rw (f .network, rings-same ∙ f .rings, f .clock, f .clock-held, f .earliest, f .words)
 
   -- ---- packets
-
-  record Packets : Type 0 where
-    waiting : every (packetFit s) (waitingItems s) ≡ true
-    on-line : every (packetFit s) (onLinePackets s) ≡ true
-    waiting-held : every (λ p. held (p .«sent_time»)) (waitingItems s) ≡ true
-    on-line-held : every (λ p. held (p .«sent_time»)) (onLinePackets s) ≡ true
-    due-held : every (λ x. held (x .due)) (onLineItems s) ≡ true
-    waiting-past : every (λ p. sinceStart s (p .«sent_time»)) (waitingItems s) ≡ true
-    on-line-past : every (λ p. sinceStart s (p .«sent_time»)) (onLinePackets s) ≡ true
-    due : dueFit s ≡ true
 
   abbrev passes : Packet → Bool
   passes = packetTest (s .senders) (s .network .senders) (s .head .clock)
 
+  -- the clauses of packets
+  record Passing (ps : List Packet) : Type 0 where
+    known : every (packetFit s) ps ≡ true
+    times : every (λ p. held (p .«sent_time»)) ps ≡ true
+    past : every (λ p. sinceStart s (p .«sent_time»)) ps ≡ true
+
+  from-passing : (ps : List Packet) → every passes ps ≡ true → Passing ps
+  from-passing ps e = record {
+    known = every-imp passes (packetFit s) (λ p h. packet-clauses s p h .0) ps e;
+    times = every-imp passes (λ p. held (p .«sent_time»)) (λ p h. packet-clauses s p h .1) ps e;
+    past = every-imp passes (λ p. sinceStart s (p .«sent_time»)) (λ p h. packet-clauses s p h .2) ps e;
+  }
+
+  to-passing : (ps : List Packet) → Passing ps → every passes ps ≡ true
+  to-passing ps p =
+      let h : Packet → Bool = λ q. held (q .«sent_time») in
+      let r : Packet → Bool = λ q. sinceStart s (q .«sent_time») in
+      every-imp (λ q. packetFit s q && h q && r q) passes
+      (λ q k. let x = and-3 (packetFit s q) (h q) (r q) k in clauses-packet s q (x .0) (x .1) (x .2)) ps
+      (every-and (λ q. packetFit s q && h q) r ps (every-and (packetFit s) h ps (p .known) (p .times)) (p .past))
+
+  -- what holding a packet each, where the test is the packet's and one more
+  module _ {A : Type 0} (packet : A → Packet) (more : A → Bool) where
+    abbrev holding : A → Bool
+    holding x = passes (packet x) && more x
+
+    from-holding : (xs : List A) → every holding xs ≡ true → Passing (map packet xs) × (every more xs ≡ true)
+    from-holding xs e = (
+      from-passing (map packet xs) (every-map passes packet xs ∙ every-imp holding (λ x. passes (packet x)) (λ x h. both-l (passes (packet x)) (more x) h) xs e),
+      every-imp holding more (λ x h. both-r (passes (packet x)) (more x) h) xs e,
+    )
+
+    to-holding : (xs : List A) → Passing (map packet xs) → every more xs ≡ true → every holding xs ≡ true
+    to-holding xs p m = every-and (λ x. passes (packet x)) more xs (sym (every-map passes packet xs) ∙ to-passing (map packet xs) p) m
+
+  abbrev waits : Waiting → Bool
+  waits = holding (λ x. x .packet) (carries s)
+
   abbrev moves : Transit → Bool
-  moves = transitTest (s .senders) (s .network .senders) (s .head .clock)
+  moves = holding (λ x. x .packet) (λ x. held (x .due))
 
-  moves-parts : (x : Transit) → moves x ≡ true → (passes (x .packet) ≡ true) × (held (x .due) ≡ true)
-  unfolding transitTest
-  moves-parts x e = and-2 (passes (x .packet)) (held (x .due)) e
+  abbrev summed : Bool
+  summed = eqb (s .line .«buffer_contains» .0) (totalBits (waitingItems s))
 
-  parts-move : (x : Transit) → (passes (x .packet) && held (x .due)) ≡ true → moves x ≡ true
-  unfolding transitTest
-  parts-move x e = e
+  record Packets : Type 0 where
+    waiting : Passing (waitingPackets s)
+    carried : carriedFit s ≡ true
+    bits : bitsFit s ≡ true
+    on-line : Passing (onLinePackets s)
+    due-held : every (λ x. held (x .due)) (onLineItems s) ≡ true
+    due : dueFit s ≡ true
 
   from-packets : packets ≡ true → Packets
-  unfolding packetsTest waitingTest onLineTest dueTest dueFit
+  unfolding packetsTest waitingTest waitsTest onLineTest transitTest dueTest bitsFit carriedFit dueFit
   from-packets e =
-      let W = waitingItems s in
-      let O = onLineItems s in
-      let a = and-3 (every passes W) (every moves O) (rising O) e in
-      let on-line : every passes (onLinePackets s) ≡ true = every-map passes (λ x. x .packet) O ∙ every-imp moves (λ x. passes (x .packet)) (λ x h. moves-parts x h .0) O (a .1) in
-      record {
-        waiting = every-imp passes (packetFit s) (λ p h. packet-clauses s p h .0) W (a .0);
-        on-line = every-imp passes (packetFit s) (λ p h. packet-clauses s p h .0) (onLinePackets s) on-line;
-        waiting-held = every-imp passes (λ p. held (p .«sent_time»)) (λ p h. packet-clauses s p h .1) W (a .0);
-        on-line-held = every-imp passes (λ p. held (p .«sent_time»)) (λ p h. packet-clauses s p h .1) (onLinePackets s) on-line;
-        due-held = every-imp moves (λ x. held (x .due)) (λ x h. moves-parts x h .1) O (a .1);
-        waiting-past = every-imp passes (λ p. sinceStart s (p .«sent_time»)) (λ p h. packet-clauses s p h .2) W (a .0);
-        on-line-past = every-imp passes (λ p. sinceStart s (p .«sent_time»)) (λ p h. packet-clauses s p h .2) (onLinePackets s) on-line;
-        due = a .2;
-      }
-
-  -- the three clauses of a packet
-  all-pass : (xs : List Packet) → every (packetFit s) xs ≡ true → every (λ p. held (p .«sent_time»)) xs ≡ true
-      → every (λ p. sinceStart s (p .«sent_time»)) xs ≡ true → every passes xs ≡ true
-  all-pass xs e f g =
-      let h : Packet → Bool = λ p. held (p .«sent_time») in
-      let r : Packet → Bool = λ p. sinceStart s (p .«sent_time») in
-      every-imp (λ p. packetFit s p && h p && r p) passes
-      (λ p k. let x = and-3 (packetFit s p) (h p) (r p) k in clauses-packet s p (x .0) (x .1) (x .2)) xs
-      (every-and (λ p. packetFit s p && h p) r xs (every-and (packetFit s) h xs e f) g)
+      let a = and-3 (every waits (waitingItems s) && summed) (every moves (onLineItems s)) (rising (onLineItems s)) e in
+      let b = and-2 (every waits (waitingItems s)) summed (a .0) in
+      let w = from-holding (λ x. x .packet) (carries s) (waitingItems s) (b .0) in
+      let o = from-holding (λ x. x .packet) (λ x. held (x .due)) (onLineItems s) (a .1) in
+      record { waiting = w .0; carried = w .1; bits = b .1; on-line = o .0; due-held = o .1; due = a .2 }
 
   to-packets : Packets → packets ≡ true
-  unfolding packetsTest waitingTest onLineTest dueTest dueFit
+  unfolding packetsTest waitingTest waitsTest onLineTest transitTest dueTest bitsFit carriedFit dueFit
   to-packets p =
-      let W = waitingItems s in
-      let O = onLineItems s in
-      let w = all-pass W (p .waiting) (p .waiting-held) (p .waiting-past) in
-      let o = all-pass (onLinePackets s) (p .on-line) (p .on-line-held) (p .on-line-past) in
-      let m =
-      every-imp (λ x. passes (x .packet) && held (x .due)) moves parts-move O
-      (every-and (λ x. passes (x .packet)) (λ x. held (x .due)) O (sym (every-map passes (λ x. x .packet) O) ∙ o) (p .due-held)) in
-      both-i (every passes W && every moves O) (rising O) (both-i (every passes W) (every moves O) w m) (p .due)
+      let w = to-holding (λ x. x .packet) (carries s) (waitingItems s) (p .waiting) (p .carried) in
+      let o = to-holding (λ x. x .packet) (λ x. held (x .due)) (onLineItems s) (p .on-line) (p .due-held) in
+      both-i (every waits (waitingItems s) && summed && every moves (onLineItems s)) (rising (onLineItems s))
+      (both-i (every waits (waitingItems s) && summed) (every moves (onLineItems s)) (both-i (every waits (waitingItems s)) summed w (p .bits)) o) (p .due)
 
   -- ---- senders
 
   counts-same : (i : ℕ)
       → leb (meterAt s i .records + waits-of i + moves-of i) (senderAt s i .«packets_sent»)
-      ≡ leb (meterAt s i .records + countOf i (waitingItems s) + countOf i (onLinePackets s)) (senderAt s i .«packets_sent»)
+      ≡ leb (meterAt s i .records + countOf i (waitingPackets s) + countOf i (onLinePackets s)) (senderAt s i .«packets_sent»)
   unfolding waitingOf onLineOf
   counts-same i =
-      ap₂ (λ (a b : ℕ). leb (meterAt s i .records + a + b) (senderAt s i .«packets_sent»)) (sym (count-tally i (waitingItems s))) (sym (count-map i (onLineItems s)))
+      ap₂ (λ (a b : ℕ). leb (meterAt s i .records + a + b) (senderAt s i .«packets_sent»)) (sym (count-map (λ x. x .packet) i (waitingItems s)))
+      (sym (count-map (λ x. x .packet) i (onLineItems s)))
 
   -- the test through the counts of the rings is the test
   pub by-counts : s .network .senders ≤ 16 → (waits moves : List ℕ) → Counts waits-of waits → Counts moves-of moves → (r : Bool)
       → r
-      ≡ sendersTest (s .network .policy) (s .network .bits) (s .head .clock) (λ i. getD waits i 0) (λ i. getD moves i 0) (s .network .senders) (s .senders) (s .togglers)
+      ≡ sendersTest (s .network .policy) sizes (s .head .clock) (λ i. getD waits i 0) (λ i. getD moves i 0) (s .network .senders) (s .senders) (s .togglers)
       (s .meters)
       → r ≡ senders
   by-counts few waits moves w m r e =
@@ -245,7 +254,7 @@ module _ (s : Simulation) where
   record HeldTimes : Type 0 where
     clock : clockHeld (s .head) ≡ true
     earliest : held (s .line .«earliest_transmit») ≡ true
-    waiting : every (λ p. held (p .«sent_time»)) (waitingItems s) ≡ true
+    waiting : every (λ p. held (p .«sent_time»)) (waitingPackets s) ≡ true
     on-line : every (λ p. held (p .«sent_time»)) (onLinePackets s) ≡ true
     due : every (λ x. held (x .due)) (onLineItems s) ≡ true
     states : each (λ i. heldSender (senderAt s i .state)) ≡ true
@@ -269,7 +278,7 @@ module _ (s : Simulation) where
   from-held e =
       let a = clockHeld (s .head) in
       let b = held (s .line .«earliest_transmit») in
-      let c = every (λ p. held (p .«sent_time»)) (waitingItems s) in
+      let c = every (λ p. held (p .«sent_time»)) (waitingPackets s) in
       let d = every (λ p. held (p .«sent_time»)) (onLinePackets s) in
       let f = every (λ x. held (x .due)) (onLineItems s) in
       let g = each (λ i. heldSender (senderAt s i .state)) in
@@ -281,7 +290,7 @@ module _ (s : Simulation) where
       record { clock = x .0; earliest = x .1; waiting = x .2; on-line = x .3; due = x .4; states = y .1; toggles = y .2; starts = y .3; queued = y .4 }
 
   record Past : Type 0 where
-    waiting : every (λ p. sinceStart s (p .«sent_time»)) (waitingItems s) ≡ true
+    waiting : every (λ p. sinceStart s (p .«sent_time»)) (waitingPackets s) ≡ true
     on-line : every (λ p. sinceStart s (p .«sent_time»)) (onLinePackets s) ≡ true
     started : each (λ i. startedFit s (senderAt s i .state)) ≡ true
     starts : each (λ i. meterStartFit s (meterAt s i .«current_start»)) ≡ true
@@ -294,11 +303,11 @@ module _ (s : Simulation) where
   unfolding pastFit
   from-past e =
       let x =
-      and-4 (every (λ p. sinceStart s (p .«sent_time»)) (waitingItems s)) (every (λ p. sinceStart s (p .«sent_time»)) (onLinePackets s))
+      and-4 (every (λ p. sinceStart s (p .«sent_time»)) (waitingPackets s)) (every (λ p. sinceStart s (p .«sent_time»)) (onLinePackets s))
       (each (λ i. startedFit s (senderAt s i .state))) (each (λ i. meterStartFit s (meterAt s i .«current_start»))) e in
       record { waiting = x .0; on-line = x .1; started = x .2; starts = x .3 }
 
-  packets-parts : packetsFit s ≡ (every (packetFit s) (waitingItems s) && every (packetFit s) (onLinePackets s))
+  packets-parts : packetsFit s ≡ (every (packetFit s) (waitingPackets s) && every (packetFit s) (onLinePackets s))
   unfolding packetsFit
   packets-parts = refl
 
@@ -371,15 +380,15 @@ module _ (s : Simulation) where
       record {
         network = f .network;
         rings = f .rings;
-        packets = packets-parts ∙ both-i _ _ (p .waiting) (p .on-line);
-        bits = f .bits;
+        packets = packets-parts ∙ both-i _ _ (p .waiting .known) (p .on-line .known);
+        bits = p .bits;
         clock = f .clock;
         held = to-held
             (record {
               clock = f .clock-held;
               earliest = f .earliest;
-              waiting = p .waiting-held;
-              on-line = p .on-line-held;
+              waiting = p .waiting .times;
+              on-line = p .on-line .times;
               due = p .due-held;
               states = upTo-i n _ (λ i h. c i h .state .times);
               toggles = upTo-i n _ (λ i h. c i h .toggle);
@@ -388,8 +397,8 @@ module _ (s : Simulation) where
             });
         past = to-past
             (record {
-              waiting = p .waiting-past;
-              on-line = p .on-line-past;
+              waiting = p .waiting .past;
+              on-line = p .on-line .past;
               started = upTo-i n _ (λ i h. c i h .state .started);
               starts = upTo-i n _ (λ i h. c i h .meter-start);
             });
@@ -404,6 +413,7 @@ module _ (s : Simulation) where
         meters = x .7;
         meter-bits = x .8;
         queue = queue-parts ∙ both-i _ _ (q .0) (places-own queuePlaces (q .1));
+        carried = p .carried;
         words = words-joined s (record { link = f .words; senders = upTo-i n _ (λ i h. c i h .words); togglers = upTo-i n _ (λ i h. c i h .toggler-words) });
       }
 
@@ -429,6 +439,7 @@ module _ (s : Simulation) where
         f .meters,
         f .meter-bits,
         f .queue,
+        f .carried,
         f .words,
       )
 
@@ -437,21 +448,19 @@ module _ (s : Simulation) where
       let t = from-held (f .held) in
       let p = from-past (f .past) in
       let g = words-apart s (f .words) in
-      let w = and-2 (every (packetFit s) (waitingItems s)) (every (packetFit s) (onLinePackets s)) (sym packets-parts ∙ f .packets) in
+      let w = and-2 (every (packetFit s) (waitingPackets s)) (every (packetFit s) (onLinePackets s)) (sym packets-parts ∙ f .packets) in
       let q = and-2 (nextFit s (s .head .next)) (upTo queuePlaces place-own) (sym queue-parts ∙ f .queue) in
       both-i (frame && packets && senders) queue
       (both-i (frame && packets) senders
       (both-i frame packets
-      (to-frame (record { network = f .network; rings = f .rings; bits = f .bits; clock = f .clock; clock-held = t .clock; earliest = t .earliest; words = g .link }))
+      (to-frame (record { network = f .network; rings = f .rings; clock = f .clock; clock-held = t .clock; earliest = t .earliest; words = g .link }))
       (to-packets
       (record {
-        waiting = w .0;
-        on-line = w .1;
-        waiting-held = t .waiting;
-        on-line-held = t .on-line;
+        waiting = record { known = w .0; times = t .waiting; past = p .waiting };
+        carried = f .carried;
+        bits = f .bits;
+        on-line = record { known = w .1; times = t .on-line; past = p .on-line };
         due-held = t .due;
-        waiting-past = p .waiting;
-        on-line-past = p .on-line;
         due = f .due;
       })))
       (to-senders (each-sender f t p g)))
@@ -463,18 +472,18 @@ module _ (s : Simulation) where
       (λ e. let a = and-4 frame packets senders queue e in fit-of (state-of (a .0) (a .1) (a .2) (a .3)))
       (λ e. tests-of (fit-state s e))
 
-  -- ---- the results of the groups' tests, one after the other
+  -- ---- the groups' tests, one after the other
 
-  pub stops-frame : (a : Bool) → a ≡ frame → a ≡ false → false ≡ fit s
-  stops-frame a ea e = rw (← groups-fit, ← ea, e)
+  pub stops-frame : frame ≡ false → false ≡ fit s
+  stops-frame e = rw (← groups-fit, e)
 
-  module _ (a : Bool) (ea : a ≡ frame) (pa : a ≡ true) where
-    pub stops-packets : (b : Bool) → b ≡ packets → b ≡ false → false ≡ fit s
-    stops-packets b eb e = rw (← groups-fit, ← ea, pa, ← eb, e)
+  module _ (a : frame ≡ true) where
+    pub stops-packets : packets ≡ false → false ≡ fit s
+    stops-packets e = rw (← groups-fit, a, e)
 
-    module _ (b : Bool) (eb : b ≡ packets) (pb : b ≡ true) where
-      pub stops-senders : (c : Bool) → c ≡ senders → c ≡ false → false ≡ fit s
-      stops-senders c ec e = rw (← groups-fit, ← ea, pa, ← eb, pb, ← ec, e)
+    module _ (b : packets ≡ true) where
+      pub stops-senders : senders ≡ false → false ≡ fit s
+      stops-senders e = rw (← groups-fit, a, b, e)
 
-      pub ends-queue : (c : Bool) → c ≡ senders → c ≡ true → (d : Bool) → d ≡ queue → d ≡ fit s
-      ends-queue c ec pc d ed = rw (← groups-fit, ← ea, pa, ← eb, pb, ← ec, pc, ed)
+      pub ends-queue : senders ≡ true → (r : Bool) → r ≡ queue → r ≡ fit s
+      ends-queue c r e = rw (← groups-fit, a, b, c, e)

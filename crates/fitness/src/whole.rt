@@ -26,7 +26,19 @@ pub fn is_fit(simulation: Simulation) -> bool
     let senders = simulation.senders;
     let waits = line.waiting;
     let moves = line.on_line;
-    if !packets_fit(senders, n, clock, waiting, waits, on_line, moves) {
+    let contains = line.buffer_contains;
+    let sizes = network.bits;
+    if !packets_fit(
+        senders,
+        sizes,
+        n,
+        clock,
+        waiting,
+        waits,
+        contains,
+        on_line,
+        moves,
+    ) {
         return false;
     }
     let policy = network.policy;
@@ -36,7 +48,7 @@ pub fn is_fit(simulation: Simulation) -> bool
     let on_line_each = on_line_counts(on_line, moves);
     if !senders_fit(
         policy,
-        network.bits,
+        sizes,
         clock,
         waiting_each,
         on_line_each,

@@ -12,6 +12,7 @@ use link::Line;
 use link::Packet;
 use link::Ring;
 use link::Transit;
+use link::Waiting;
 use meters::AverageFlowMeter;
 use quantities::Information;
 use quantities::TimeSpan;
@@ -92,15 +93,11 @@ fn line(text: &[u8], at: usize, st: Simulation) -> Simulation {
     out
 }
 
-fn transit_at(text: &[u8], at: usize) -> Transit {
-    let packet = Packet {
+fn packet_at(text: &[u8], at: usize) -> Packet {
+    Packet {
         sender: narrow(text, at, 2),
         seq: narrow(text, at, 3),
         sent_time: moment(text, at, 4),
-    };
-    Transit {
-        packet,
-        due: moment(text, at, 5),
     }
 }
 
@@ -114,21 +111,25 @@ fn at_most_512(n: usize) -> usize
 }
 
 // O slot count sender sequence sent-time due: so many slots of those on the line
-// W slot count sender sequence sent-time: so many slots of those that wait
+// W slot count sender sequence sent-time bits: so many slots of those that wait
 fn slots(text: &[u8], at: usize, st: Simulation, on_line: bool) -> Simulation {
     let mut out = st;
     let start = size(text, at, 0);
     let n = at_most_512(size(text, at, 1));
-    let x = transit_at(text, at);
+    let packet = packet_at(text, at);
+    let due = moment(text, at, 5);
+    let bits = Information(number(text, at, 5));
+    let x = Transit { packet, due };
+    let w = Waiting { packet, bits };
     let mut k: usize = 0;
     while k < n {
-        out = with_slot(out, slot(start, k), x, on_line);
+        out = with_slot(out, slot(start, k), x, w, on_line);
         k += 1;
     }
     out
 }
 
-fn with_slot(st: Simulation, i: usize, x: Transit, on_line: bool) -> Simulation
+fn with_slot(st: Simulation, i: usize, x: Transit, w: Waiting, on_line: bool) -> Simulation
     requires { ⌜ i < 512 ⌝ }
 {
     let mut out = st;
@@ -136,8 +137,7 @@ fn with_slot(st: Simulation, i: usize, x: Transit, on_line: bool) -> Simulation
         out.on_line[i] = x;
         return out;
     }
-    let packet = x.packet;
-    out.waiting[i] = packet;
+    out.waiting[i] = w;
     out
 }
 

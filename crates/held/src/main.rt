@@ -18,8 +18,9 @@
 //     F i                    the flow of sender i
 //
 // A number is 16 hexadecimal digits, a double by its bits, an absent value 16 times '-'. A network is
-// 16 fields: delay, rate, loss, limit, bits, senders; on and off, each a kind (0 always, 1 uniform)
-// and two doubles; the policy's kind (0 held, 1 grown, 2 timed), two numbers and the gap.
+// 31 fields: delay, rate, loss, limit, the bits of 16 senders, how many there are; on and off, each a
+// kind (0 always, 1 uniform) and two doubles; the policy's kind (0 held, 1 grown, 2 timed), two numbers
+// and the gap.
 ghost use mathlib.Core.Path.{_≡_};
 ghost use lib.ListN.{length};
 
@@ -52,10 +53,10 @@ fn main() {
     run(&text[..got]);
 }
 
-fn buffer() -> [u8; 262144]
-    ensures { λ r. ⌜ 262144 ≡ length r ⌝ }
+fn buffer() -> [u8; 524288]
+    ensures { λ r. ⌜ 524288 ≡ length r ⌝ }
 {
-    [0; 262144]
+    [0; 524288]
 }
 
 // The held state, and the one that was kept, from command to command.
@@ -102,7 +103,7 @@ fn changed(letter: u8, text: &[u8], at: usize, st: Simulation) -> Simulation {
 
 fn build_at(text: &[u8], at: usize) -> Built {
     let network = network_at(text, at);
-    builder::build(network, number(text, at, 16))
+    builder::build(network, number(text, at, 31))
 }
 
 fn built(text: &[u8], at: usize) -> Simulation {
@@ -220,7 +221,7 @@ fn lines(out: Sink, text: &[u8], at: usize) -> Sink {
         return put(a, b"\n");
     }
     let fresh = b.simulation;
-    held(out, fresh, number(text, at, 17))
+    held(out, fresh, number(text, at, 32))
 }
 
 // So many ticks, or until one does not move.

@@ -10,6 +10,7 @@ use link::Line;
 use link::Packet;
 use link::Ring;
 use link::Transit;
+use link::Waiting;
 use meters::AverageFlowMeter;
 use meters::FlowRead;
 use quantities::OptionTime;
@@ -126,8 +127,12 @@ fn packet_at(out: Sink, st: Simulation, at: usize, on_line: bool) -> Sink
         let x = st.on_line[at];
         return transit(out, x);
     }
-    let p = st.waiting[at];
-    packet(out, p)
+    let w = st.waiting[at];
+    waits(out, w)
+}
+
+fn waits(out: Sink, w: Waiting) -> Sink {
+    decimal(put(packet(out, w.packet), b":"), w.bits.0)
 }
 
 fn transit(out: Sink, x: Transit) -> Sink {

@@ -11,20 +11,31 @@ use script::absent;
 use script::number;
 use sender::Policy;
 
-// The network of the fields 0 to 15: delay, rate, loss, limit, bits, senders; on and off, each a kind
-// and two doubles; the policy's kind, two numbers and the gap.
+// The network of the fields 0 to 30: delay, rate, loss, limit, the bits of 16 senders, how many there
+// are; on and off, each a kind and two doubles; the policy's kind, two numbers and the gap.
 pub(crate) fn network_at(text: &[u8], at: usize) -> RemyNetwork {
+    let bits = sizes_at(text, at);
     RemyNetwork {
         delay: double(text, at, 0),
         rate: double(text, at, 1),
         loss: double(text, at, 2),
         limit: limit_at(text, at),
-        bits: number(text, at, 4),
-        senders: narrow(text, at, 5),
-        on: distribution_at(text, at, 6),
-        off: distribution_at(text, at, 9),
+        bits,
+        senders: narrow(text, at, 20),
+        on: distribution_at(text, at, 21),
+        off: distribution_at(text, at, 24),
         policy: policy_at(text, at),
     }
+}
+
+fn sizes_at(text: &[u8], at: usize) -> [u64; 16] {
+    let mut bits = [0; 16];
+    let mut i: usize = 0;
+    while i < 16 {
+        bits[i] = number(text, at, 4 + i);
+        i += 1;
+    }
+    bits
 }
 
 fn limit_at(text: &[u8], at: usize) -> Limit {
@@ -36,7 +47,7 @@ fn limit_at(text: &[u8], at: usize) -> Limit {
 }
 
 fn distribution_at(text: &[u8], at: usize, k: usize) -> ContinuousDistribution
-    requires { ⌜ k < 16 ⌝ }
+    requires { ⌜ k < 32 ⌝ }
 {
     let a = double(text, at, k + 1);
     if number(text, at, k) == 0 {
@@ -47,12 +58,12 @@ fn distribution_at(text: &[u8], at: usize, k: usize) -> ContinuousDistribution
 }
 
 fn policy_at(text: &[u8], at: usize) -> Policy {
-    let first = narrow(text, at, 13);
-    let most = narrow(text, at, 14);
-    match number(text, at, 12) {
+    let first = narrow(text, at, 28);
+    let most = narrow(text, at, 29);
+    match number(text, at, 27) {
         0 => Policy::Held(first),
         1 => Policy::Grown(first, most),
-        _ => Policy::Timed(most, double(text, at, 15)),
+        _ => Policy::Timed(most, double(text, at, 30)),
     }
 }
 

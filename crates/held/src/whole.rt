@@ -38,11 +38,23 @@ fn ring(out: Sink, ring: Ring) -> Sink {
 fn network_fields(out: Sink, n: RemyNetwork) -> Sink {
     let a = double(double(double(out, n.delay), n.rate), n.loss);
     let limit = n.limit;
-    let b = pair(limit_field(a, limit), n.bits, n.senders as u64);
+    let bits = n.bits;
+    let b = decimal(sizes_fields(limit_field(a, limit), bits), n.senders as u64);
     let on = n.on;
     let off = n.off;
     let policy = n.policy;
     policy_fields(times_fields(times_fields(b, on), off), policy)
+}
+
+fn sizes_fields(out: Sink, bits: [u64; 16]) -> Sink {
+    let mut o = out;
+    let mut i: usize = 0;
+    while i < 16 {
+        let size = bits[i];
+        o = put(decimal(o, size), b":");
+        i += 1;
+    }
+    o
 }
 
 fn limit_field(out: Sink, limit: Limit) -> Sink {

@@ -65,6 +65,14 @@ module _ {A : Type 0} (d : A) (slots : List A) (r : Ring) where
       let inside : i < r .count = omega arith in
       items-at i inside ∙ h i inside ∙ sym (from-at d others (r .start) (r .count) i inside))
 
+  -- the first, then the others
+  pub items-first : r .start < places → 0 < r .count → items d slots r ≡ getD slots (r .start) d ∷ items d slots (popped r)
+  items-first start some =
+      let one : r .count ≡ suc (r .count - 1) = omega arith in
+      let inside : r .start % places ≡ r .start = omega arith in
+      ap (itemsFrom d slots (r .start)) one
+      ∙ ap₂ (λ (k : ℕ) (l : List A). getD slots k d ∷ l) inside (from-turn d slots (r .start + 1) ((r .start + 1) % places) (r .count - 1) (omega arith))
+
 -- ---- a push and a pop
 
 module _ {A : Type 0} {slots : List A} {r : Ring} (sound : Sound slots r) where
@@ -82,11 +90,7 @@ module _ {A : Type 0} {slots : List A} {r : Ring} (sound : Sound slots r) where
   push-sound x h = record { full = length-set slots (placeAfter r) x ∙ sound .full; start = sound .start; count = omega arith }
 
   pub items-pop : (d : A) → 0 < r .count → items d slots r ≡ getD slots (r .start) d ∷ items d slots (popped r)
-  items-pop d h =
-      let one : r .count ≡ suc (r .count - 1) = omega arith in
-      let inside : r .start % places ≡ r .start = omega arith in
-      ap (itemsFrom d slots (r .start)) one
-      ∙ ap₂ (λ (k : ℕ) (l : List A). getD slots k d ∷ l) inside (from-turn d slots (r .start + 1) ((r .start + 1) % places) (r .count - 1) (omega arith))
+  items-pop d = items-first d slots r (sound .start)
 
   pub pop-sound : 0 < r .count → Sound slots (popped r)
   pop-sound h = record { full = sound .full; start = omega arith; count = omega arith }

@@ -1,4 +1,5 @@
--- Document 01, "Link", and rows 12 and 13 of "Stops". Definitions only. A line's own values (limit, bits, loss, delay, rate) are arguments, so that they hold for any line.
+-- Document 01, "Link", and rows 12 and 13 of "Stops". Definitions only. A line's own values (limit, loss, delay, rate) are arguments, so that they hold for any line.
+-- The bits of a packet that arrives are an argument; a packet that starts has those that it carries (document 02, K1).
 use Prim.Native.Nat.{ℕ, _+_, _-_}
 use mathlib.Core.Bool.{Bool, true, false, _&&_, cond}
 use lib.Dec.{leb, eqb}
@@ -11,7 +12,7 @@ use Rattle.quantities.specs.declared.information.Information.{Information}
 use Rattle.quantities.specs.declared.information_rate.InformationRate.{InformationRate}
 use Rattle.quantities.specs.Units.{amountOf, amountOverRate, spanAfter, latestOf, earliestOptOf}
 use Rattle.rand.specs.Draws.{unitOf}
-use Rattle.link.specs.declared.packet.Packet.{Packet}
+use Rattle.link.specs.declared.packet.Waiting.{Waiting}
 use Rattle.link.specs.declared.packet.Transit.{Transit}
 use Rattle.link.specs.declared.link.Limit.{Limit}
 use Rattle.link.specs.declared.link.Limit.the-variants as L
@@ -115,17 +116,17 @@ nextStart clock bits rate = spanAfter clock (amountOverRate bits rate)
 abbrev pub dueTime : Time → TimeSpan → Time
 dueTime clock delay = spanAfter clock delay
 
-abbrev pub startsAt : Line → Packet → Information → Time → Time → Transmitted
-startsAt l first bits free due =
-    record { number = 0; begun = Begun.Starts (record { packet = first; due = due }); line = startedLine l bits free }
+abbrev pub startsAt : Line → Waiting → Time → Time → Transmitted
+startsAt l first free due =
+    record { number = 0; begun = Begun.Starts (record { packet = first .packet; due = due }); line = startedLine l (first .bits) free }
 
 -- clock ≥ earliest start and one waits
 unfoldable pub isFree : Line → Time → Bool
 isFree l clock = le (l .«earliest_transmit» .0 .0) (clock .0 .0) && leb 1 (l .waiting .count)
 
 -- Then, if clock ≥ earliest start and one waits, it starts. 13: a starting packet finds 512 on the line.
-unfoldable pub tryTransmit : Line → Time → Packet → TimeSpan → InformationRate → Information → Transmitted
-tryTransmit l clock first delay rate bits =
+unfoldable pub tryTransmit : Line → Time → Waiting → TimeSpan → InformationRate → Transmitted
+tryTransmit l clock first delay rate =
     cond (isFree l clock)
-    (cond (leb places (l .«on_line» .count)) (notStarted l 13) (startsAt l first bits (nextStart clock bits rate) (dueTime clock delay)))
+    (cond (leb places (l .«on_line» .count)) (notStarted l 13) (startsAt l first (nextStart clock (first .bits) rate) (dueTime clock delay)))
     (notStarted l 0)

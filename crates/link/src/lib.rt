@@ -18,4 +18,5 @@ pub use link::try_deliver;
 pub use link::try_transmit;
 pub use packet::Packet;
 pub use packet::Transit;
+pub use packet::Waiting;
 pub use ring::Ring;

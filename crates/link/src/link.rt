@@ -3,6 +3,7 @@ ghost use Prim.Native.Nat.{_+_, _<_, _^_};
 ghost use Rattle.link.specs.Link.{admits, receiveOf, nextTransmit, nextDeliver, nextTick, isDue, tryDeliver, lessOf, isFree, tryTransmit};
 use crate::packet::Packet;
 use crate::packet::Transit;
+use crate::packet::Waiting;
 use crate::ring::Ring;
 use quantities::Information;
 use quantities::InformationRate;
@@ -202,19 +203,18 @@ fn is_free(line: Line, clock: Time) -> bool
     line.earliest_transmit.0.0 <= clock.0.0 && 1 <= line.waiting.count
 }
 
-// The first waiting packet starts, if the line is free.
+// The first waiting packet starts, if the line is free. What it carries is taken off the waiting bits.
 //
 // A helper for the crates above, and no entry point: the caller shows that the ring is in range.
 pub fn try_transmit(
     line: Line,
     clock: Time,
-    first: Packet,
+    first: Waiting,
     delay: TimeSpan,
     packet_rate: InformationRate,
-    bits: Information,
 ) -> Transmitted
     requires { ⌜ line .waiting .start < 512 ⌝ }
-    ensures { λ r. ⌜ r ≡ tryTransmit line clock first delay «packet_rate» bits ⌝ }
+    ensures { λ r. ⌜ r ≡ tryTransmit line clock first delay «packet_rate» ⌝ }
 {
     let waiting = line.waiting;
     let on_line = line.on_line;
@@ -232,6 +232,7 @@ pub fn try_transmit(
             line,
         };
     }
+    let bits = first.bits;
     let earliest_transmit = clock.add(bits.div_rate(packet_rate));
     let due = clock.add(delay);
     let buffer_contains = less(line.buffer_contains, bits);
@@ -245,7 +246,7 @@ pub fn try_transmit(
         on_line,
         rng,
     };
-    let packet = first;
+    let packet = first.packet;
     Transmitted {
         number: 0,
         begun: Begun::Starts(Transit { packet, due }),

@@ -79,17 +79,18 @@ fn round(list: &[u8], tally: Tally) -> Tally {
 
 // One answer more.
 fn counted(tally: Tally, answer: ReadDescription) -> Tally {
-    match answer {
-        ReadDescription::Given(d) => Tally {
-            given: one_more(tally.given),
-            malformed: tally.malformed,
-            sum: described(tally.sum, d),
-        },
-        ReadDescription::Malformed => Tally {
+    if answer.number != 0 {
+        return Tally {
             given: tally.given,
             malformed: one_more(tally.malformed),
             sum: tally.sum,
-        },
+        };
+    }
+    let d = answer.description;
+    Tally {
+        given: one_more(tally.given),
+        malformed: tally.malformed,
+        sum: described(tally.sum, d),
     }
 }
 
@@ -107,11 +108,12 @@ fn with(sum: u64, n: u64) -> u64 {
 
 fn described(sum: u64, d: Description) -> u64 {
     let limit = d.limit;
+    let bits = d.bits;
     let on = d.on;
     let off = d.off;
     let policy = d.policy;
     let link = limited(with(with(with(sum, d.delay), d.rate), d.loss), limit);
-    let load = with(with(link, d.bits), d.senders as u64);
+    let load = with(sized(link, bits), d.senders as u64);
     let course = governed(distributed(distributed(load, on), off), policy);
     with(with(course, d.seed), d.ticks as u64)
 }
@@ -121,6 +123,15 @@ fn limited(sum: u64, limit: Limit) -> u64 {
         Limit::None => with(sum, 0),
         Limit::Bits(bits) => with(with(sum, 1), bits),
     }
+}
+
+// The packet bits of all 16 places.
+fn sized(sum: u64, bits: [u64; 16]) -> u64 {
+    let mut now = sum;
+    for i in 0..16 {
+        now = with(now, bits[i]);
+    }
+    now
 }
 
 fn distributed(sum: u64, distribution: Distribution) -> u64 {

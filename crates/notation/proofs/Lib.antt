@@ -2,5 +2,5 @@ mod Examples
 pub mod Digits
 pub mod Words
 pub mod Written
-mod Numbers
+pub mod Numbers
 mod Positions

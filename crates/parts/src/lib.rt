@@ -4,13 +4,14 @@
 // All functions here are helpers for the crate `builder`, and no entry points.
 ghost use mathlib.Core.Path.{_≡_};
 ghost use Prim.Native.Nat.{_≤_};
-ghost use Rattle.remy.specs.Build.{newLine, newSender, blankPacket, blankTransit, blankToggler, blankWords, noParts, populate, emptyNetwork, emptyWords};
+ghost use Rattle.remy.specs.Build.{newLine, newSender, blankPacket, blankWaiting, blankTransit, blankToggler, blankWords, noParts, populate, emptyNetwork, emptyWords};
 ghost use Rattle.parts.specs.Parts.{toldParts};
 use link::Limit;
 use link::Line;
 use link::Packet;
 use link::Ring;
 use link::Transit;
+use link::Waiting;
 use quantities::Information;
 use quantities::Time;
 use quantities::TimeSpan;
@@ -66,8 +67,8 @@ pub fn blank_words() -> Rng
     Rng::from_seed(0)
 }
 
-// What a place holds where no packet waits.
-pub fn blank_packet() -> Packet
+// The packet of a place that holds none.
+fn blank_packet() -> Packet
     ensures { λ r. ⌜ r ≡ blankPacket ⌝ }
 {
     let sent_time = Time(TimeSpan(0.0));
@@ -76,6 +77,15 @@ pub fn blank_packet() -> Packet
         seq: 0,
         sent_time,
     }
+}
+
+// What a place holds where no packet waits.
+pub fn blank_waiting() -> Waiting
+    ensures { λ r. ⌜ r ≡ blankWaiting ⌝ }
+{
+    let packet = blank_packet();
+    let bits = Information(0);
+    Waiting { packet, bits }
 }
 
 // What a place holds where no packet is on the line.
@@ -158,12 +168,13 @@ pub fn make(n: usize, root: Rng, off: ContinuousDistribution) -> Made
 pub fn empty_network() -> RemyNetwork
     ensures { λ r. ⌜ r ≡ emptyNetwork ⌝ }
 {
+    let bits = [1; 16];
     RemyNetwork {
         delay: 0.0,
         rate: 1.0,
         loss: 0.0,
         limit: Limit::None,
-        bits: 1,
+        bits,
         senders: 0,
         on: ContinuousDistribution::Always(1.0),
         off: ContinuousDistribution::Always(1.0),

@@ -3,7 +3,7 @@ use mathlib.Core.Path.{_≡_, refl}
 use mathlib.Core.List.{map}
 use Prim.Native.Nat.{_+_}
 use native.Mathlib.Omega.{arith}
-use Rattle.remy.specs.State.{senderAt, waitingItems, onLinePackets}
+use Rattle.remy.specs.State.{senderAt, waitingPackets, onLinePackets}
 use Rattle.remy.specs.History.{ticks, Fresh, idOf, droppedFull, lost, counted, old, ignored}
 use Rattle.remy.specs.Account.{Account}
 use Rattle.remy.proofs.Account.{demand3}
@@ -24,7 +24,7 @@ worked-account = demand3 worked begun worked-fresh (ticks 7)
 -- its clause `books`: with the numbers below, 4 ≡ 1 + 1 + 1 + 0 + 1 + 0 + 0
 pub worked-books : senderAt ended 0 .«packets_sent»
     ≡ many (droppedFull recorded)
-    + many (map idOf (waitingItems ended))
+    + many (map idOf (waitingPackets ended))
     + many (map idOf (onLinePackets ended))
     + many (lost recorded)
     + many (counted recorded)

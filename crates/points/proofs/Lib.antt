@@ -12,3 +12,5 @@ pub mod Rare
 pub mod Clock
 pub mod Joins
 pub mod Words
+pub mod Unread
+pub mod Sizes

@@ -6,8 +6,8 @@ use Prim.Native.Nat.{ℕ, zero, suc}
 use native.Mathlib.Omega.{arith}
 use borrow.Author.Tests.{ltb-true, leb-true, eqb-true}
 use lib.Dec.{leb, ltb, eqb}
-use Rattle.remy.specs.Network.{between}
-use Rattle.remy.specs.Fit.{every, upTo}
+use Rattle.remy.specs.Network.{upTo, between}
+use Rattle.remy.specs.Fit.{every}
 use Rattle.remy.specs.History.{PacketId}
 use Rattle.remy.specs.Account.{total, isPacket}
 use Rattle.remy.proofs.Facts.{both-l, both-r, upTo-at}

@@ -18,6 +18,8 @@ ranges-hold =
     and refl and refl and refl and refl
     and refl and refl and refl and refl
     and refl and refl and refl
+    and refl and refl and refl and refl and refl
+    and refl and refl and refl
     and refl and refl and refl and refl and refl and refl
     and refl and refl and refl and refl and refl and refl and refl and refl and refl
     and refl and refl and refl and refl

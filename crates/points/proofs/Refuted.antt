@@ -21,7 +21,7 @@ use Rattle.remy.proofs.Account.{demand3}
 use Rattle.remy.proofs.Opened.{doubles, ticking}
 use Rattle.points.specs.Points.{Hold}
 use Rattle.points.specs.Unfit.{three}
-use Rattle.points.specs.Refuted.{Case, network, sent, books, once, meter, starts, leaves, arrival, spacing, bits, limit, Says, Others, Accounted, Refuted, plan, ten, tenth, anotherNetwork, unrecorded, mislaid, recordedTwice, passedOver, overtaken, late, tooClose, talliedTwice, overfull, fullAndWaiting, waitingAndOnLine, onLineAndFull, leftAndOnLine, numberedCase, nowhere, neverSent, refutations}
+use Rattle.points.specs.Refuted.{Case, network, sent, books, once, meter, starts, leaves, arrival, spacing, bits, carried, limit, Says, Others, Accounted, Refuted, plan, ten, tenth, anotherNetwork, unrecorded, mislaid, recordedTwice, passedOver, overtaken, late, tooClose, talliedTwice, overfull, fullAndWaiting, waitingAndOnLine, onLineAndFull, leftAndOnLine, numberedCase, nowhere, neverSent, refutations}
 use Rattle.points.proofs.Claims.{_and_}
 use Rattle.points.proofs.Once.{eachOnce, once-by}
 use Rattle.points.proofs.Follows.{books-follows, sent-follows}
@@ -40,6 +40,7 @@ says-all k a =
     and a .line .arrival
     and a .line .spacing
     and a .line .bits
+    and a .line .carried
     and a .line .limit
     and tt
 
@@ -59,7 +60,8 @@ all-said k o =
             arrival = line .1 .1 .0;
             spacing = line .1 .1 .1 .0;
             bits = line .1 .1 .1 .1 .0;
-            limit = line .1 .1 .1 .1 .1 .0;
+            carried = line .1 .1 .1 .1 .1 .0;
+            limit = line .1 .1 .1 .1 .1 .1 .0;
           };
     }
 
@@ -90,7 +92,7 @@ only P p zero below = p
 only P p (suc i) below = absurd (omega arith)
 
 -- where each of a case's packets is exactly once
-once-in : (k : Case) → eachOnce (k .network .senders) (λ i. senderAt (k .last) i .«packets_sent») (everywhere (k .past) (k .last)) ≡ true → Says (k .network) (k .past) (k .last) once
+pub once-in : (k : Case) → eachOnce (k .network .senders) (λ i. senderAt (k .last) i .«packets_sent») (everywhere (k .past) (k .last)) ≡ true → Says (k .network) (k .past) (k .last) once
 once-in k each i m = once-by (k .network .senders) (λ i. senderAt (k .last) i .«packets_sent») i m (everywhere (k .past) (k .last)) each
 
 -- ---- the refutations, each by the clause that is broken
@@ -104,70 +106,70 @@ unfolding doubles tenth
 network-refutes =
     (λ a. true≢false (ap (λ n. eq (n .loss) zeroF) (a .network)))
     and only _ refl and only _ refl and once-in anotherNetwork refl and only _ refl
-    and refl and refl and refl and (tt, (tt, tt)) and refl and omega arith and tt
+    and refl and refl and refl and (tt, (tt, tt)) and refl and refl and omega arith and tt
 
 meter-refutes : Refuted (meter ∷ []) recordedTwice
 unfolding doubles tenth
 meter-refutes =
     (λ a. let e : 2 ≡ 1 = a .meter 0 (omega arith) in omega (arith, e))
     and refl and only _ refl and only _ refl and once-in recordedTwice refl
-    and refl and refl and refl and (tt, (tt, tt)) and refl and omega arith and tt
+    and refl and refl and refl and (tt, (tt, tt)) and refl and refl and omega arith and tt
 
 starts-refutes : Refuted (starts ∷ []) passedOver
 unfolding doubles tenth
 starts-refutes =
     (λ a. let e : 4 ≡ 5 = ap (seqAt 3) (a .line .starts) in omega (arith, e))
     and refl and only _ refl and only _ refl and once-in passedOver refl and only _ refl
-    and refl and refl and (tt, (tt, tt)) and refl and omega arith and tt
+    and refl and refl and (tt, (tt, tt)) and refl and refl and omega arith and tt
 
 leaves-refutes : Refuted (leaves ∷ []) overtaken
 unfolding doubles tenth
 leaves-refutes =
     (λ a. let e : 2 ≡ 3 = ap (seqAt 1) (a .line .leaves) in omega (arith, e))
     and refl and only _ refl and only _ refl and once-in overtaken refl and only _ refl
-    and refl and refl and (tt, (tt, tt)) and refl and omega arith and tt
+    and refl and refl and (tt, (tt, tt)) and refl and refl and omega arith and tt
 
 arrival-refutes : Refuted (arrival ∷ []) late
 unfolding doubles tenth
 arrival-refutes =
     (λ a. false≢true (ap (λ l. eq (getD l 0 noTime .0 .0) three) (a .line .arrival)))
     and refl and only _ refl and only _ refl and once-in late refl and only _ refl
-    and refl and refl and (tt, (tt, tt)) and refl and omega arith and tt
+    and refl and refl and (tt, (tt, tt)) and refl and refl and omega arith and tt
 
 spacing-refutes : Refuted (spacing ∷ []) tooClose
 unfolding doubles tenth
 spacing-refutes =
     (λ a. a .line .spacing .0)
     and refl and only _ refl and only _ refl and once-in tooClose refl and only _ refl
-    and refl and refl and refl and refl and omega arith and tt
+    and refl and refl and refl and refl and refl and omega arith and tt
 
 bits-refutes : Refuted (bits ∷ []) talliedTwice
 unfolding doubles tenth
 bits-refutes =
     (λ a. let e : 24 ≡ 16 = a .line .bits in omega (arith, e))
     and refl and only _ refl and only _ refl and once-in talliedTwice refl and only _ refl
-    and refl and refl and refl and (tt, (tt, tt)) and omega arith and tt
+    and refl and refl and refl and (tt, (tt, tt)) and refl and omega arith and tt
 
 limit-refutes : Refuted (limit ∷ []) overfull
 unfolding doubles tenth
 limit-refutes =
     (λ a. let e : 16 ≤ 8 = a .line .limit in omega (arith, e))
     and refl and only _ refl and only _ refl and once-in overfull refl and only _ refl
-    and refl and refl and refl and (tt, (tt, tt)) and refl and tt
+    and refl and refl and refl and (tt, (tt, tt)) and refl and refl and tt
 
 books-refutes : Refuted (books ∷ once ∷ starts ∷ []) mislaid
 unfolding doubles tenth
 books-refutes =
     (λ a. let e : 6 ≡ 5 = a .books 0 (omega arith) in omega (arith, e))
     and refl and only _ refl and only _ refl
-    and refl and refl and (tt, (tt, tt)) and refl and omega arith and tt
+    and refl and refl and (tt, (tt, tt)) and refl and refl and omega arith and tt
 
 sent-refutes : Refuted (sent ∷ starts ∷ []) unrecorded
 unfolding doubles tenth
 sent-refutes =
     (λ a. let e : 6 ≡ 5 = a .sent 0 (omega arith) in omega (arith, e))
     and refl and only _ refl and once-in unrecorded refl and only _ refl
-    and refl and refl and (tt, (tt, tt)) and refl and omega arith and tt
+    and refl and refl and (tt, (tt, tt)) and refl and refl and omega arith and tt
 
 -- ---- `once`: a packet is not found as often as it should be
 
@@ -180,23 +182,23 @@ not-once k i m e a = eqb-false (total (isPacket i m) (everywhere (k .past) (k .l
 module _ (a b c d e f : ℕ) where
   counted-others : Others (once ∷ []) (numberedCase a b c d e f Mark.Counted 1)
   unfolding doubles tenth
-  counted-others = refl and only _ refl and only _ refl and only _ refl and refl and refl and refl and (tt, (tt, tt)) and refl and omega arith and tt
+  counted-others = refl and only _ refl and only _ refl and only _ refl and refl and refl and refl and (tt, (tt, tt)) and refl and refl and omega arith and tt
 
   lost-others : Others (once ∷ []) (numberedCase a b c d e f Mark.Lost 0)
   unfolding doubles tenth
-  lost-others = refl and only _ refl and only _ refl and only _ refl and refl and refl and refl and (tt, (tt, tt)) and refl and omega arith and tt
+  lost-others = refl and only _ refl and only _ refl and only _ refl and refl and refl and refl and (tt, (tt, tt)) and refl and refl and omega arith and tt
 
   old-others : Others (once ∷ []) (numberedCase a b c d e f Mark.Old 0)
   unfolding doubles tenth
-  old-others = refl and only _ refl and only _ refl and only _ refl and refl and refl and refl and (tt, (tt, tt)) and refl and omega arith and tt
+  old-others = refl and only _ refl and only _ refl and only _ refl and refl and refl and refl and (tt, (tt, tt)) and refl and refl and omega arith and tt
 
   ignored-others : Others (once ∷ []) (numberedCase a b c d e f Mark.Ignored 0)
   unfolding doubles tenth
-  ignored-others = refl and only _ refl and only _ refl and only _ refl and refl and refl and refl and (tt, (tt, tt)) and refl and omega arith and tt
+  ignored-others = refl and only _ refl and only _ refl and only _ refl and refl and refl and refl and (tt, (tt, tt)) and refl and refl and omega arith and tt
 
 never-sent-others : Others (once ∷ []) neverSent
 unfolding doubles tenth
-never-sent-others = refl and only _ refl and only _ refl and only _ refl and refl and refl and refl and (tt, (tt, tt)) and refl and omega arith and tt
+never-sent-others = refl and only _ refl and only _ refl and only _ refl and refl and refl and refl and (tt, (tt, tt)) and refl and refl and omega arith and tt
 
 -- ---- what the account speaks of
 

@@ -26,7 +26,7 @@ use Rattle.remy.specs.NewTimes.{newTimes}
 use Rattle.remy.specs.HeldTimes.{Holds}
 use Rattle.remy.specs.History.{ticks, after}
 use Rattle.steady.specs.Clock.{oldOrNew, Onward, Rising, NeverBack}
-use Rattle.points.specs.Ranges.{networkFrom, always}
+use Rattle.points.specs.Ranges.{networkFrom, bitsAll, always}
 use Rattle.points.specs.Worked.{worked}
 use Rattle.points.specs.Unfit.{packetOf, transitOf, lineWith, withClock, withTimer, withToggle, busyTimed, waitingFor}
 
@@ -80,7 +80,7 @@ recordedAt t = record { time = t; part = 0; mark = Mark.None; packet = Name.None
 
 -- a delay of 0 and one packet, which waits for the link at 1
 unfoldable pub sentOne : Simulation
-sentOne = after (ticks 2) (buildOf (networkFrom zeroF (power 3) zeroF Limit.None 8 1 always always (Held 1)) 1 .simulation)
+sentOne = after (ticks 2) (buildOf (networkFrom zeroF (power 3) zeroF Limit.None (bitsAll 8) 1 always always (Held 1)) 1 .simulation)
 
 -- its clock no double, and an array of it without places: neither is a state of code
 abbrev pub untimely : Simulation

@@ -4,7 +4,7 @@ use mathlib.Core.List.{List, [], _∷_, map}
 use Prim.Native.Nat.{ℕ, _+_}
 use Rattle.remy.specs.declared.simulation.Simulation.{Simulation}
 use Rattle.remy.specs.declared.simulation.TickRecord.{TickRecord}
-use Rattle.remy.specs.State.{senderAt, meterAt, waitingItems, onLinePackets}
+use Rattle.remy.specs.State.{senderAt, meterAt, waitingPackets, onLinePackets}
 use Rattle.remy.specs.Build.{buildOf}
 use Rattle.remy.specs.History.{ticks, after, history, Fresh, PacketId, idOf, ids, admissions, starts, leaves, droppedFull, lost, counted, old, ignored}
 use Rattle.remy.specs.Account.{total, ofSender, Account}
@@ -37,7 +37,7 @@ totals =
     -- sent 4 = full 1 + waiting 1 + on the line 1 + lost 0 + counted 1 + old 0 + ignored 0
     ∷ (senderAt ended 0 .«packets_sent» ≡ 4)
     ∷ (many (droppedFull recorded) ≡ 1)
-    ∷ (many (map idOf (waitingItems ended)) ≡ 1)
+    ∷ (many (map idOf (waitingPackets ended)) ≡ 1)
     ∷ (many (map idOf (onLinePackets ended)) ≡ 1)
     ∷ (many (lost recorded) ≡ 0)
     ∷ (many (counted recorded) ≡ 1)
@@ -46,7 +46,7 @@ totals =
     -- the clause `books` of that account, at sender 0
     ∷ (senderAt ended 0 .«packets_sent»
     ≡ many (droppedFull recorded)
-    + many (map idOf (waitingItems ended))
+    + many (map idOf (waitingPackets ended))
     + many (map idOf (onLinePackets ended))
     + many (lost recorded)
     + many (counted recorded)
@@ -58,7 +58,7 @@ totals =
     ∷ (ids (admissions recorded) ≡ ownId 1 ∷ ownId 2 ∷ ownId 4 ∷ [])
     ∷ (ids (starts recorded) ≡ ownId 1 ∷ ownId 2 ∷ [])
     ∷ (ids (leaves recorded) ≡ ownId 1 ∷ [])
-    ∷ (map idOf (waitingItems ended) ≡ ownId 4 ∷ [])
+    ∷ (map idOf (waitingPackets ended) ≡ ownId 4 ∷ [])
     ∷ (map idOf (onLinePackets ended) ≡ ownId 2 ∷ [])
     ∷ (droppedFull recorded ≡ ownId 3 ∷ [])
     ∷ []

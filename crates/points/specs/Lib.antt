@@ -10,3 +10,4 @@ pub mod Rare
 pub mod Clock
 pub mod Joins
 pub mod Words
+pub mod Sizes

@@ -4,6 +4,7 @@ use mathlib.Core.Bool.{true, false}
 use mathlib.Core.List.{List, [], _∷_}
 use Prim.Native.Nat.{ℕ}
 use lib.IntN.{pos, negsuc}
+use lib.ListN.{replicate, set}
 use lib.Ieee.{Float, nan, inf, fin, binary64, ofBits}
 use Rattle.quantities.specs.Doubles.{zeroF, power}
 use Rattle.rand.specs.declared.distribution.ContinuousDistribution.{ContinuousDistribution}
@@ -17,42 +18,50 @@ use Rattle.remy.specs.Network.{networkStop}
 
 -- ---- the good network, and one field of it anew
 
-abbrev pub networkFrom : Float → Float → Float → Limit → ℕ → ℕ → ContinuousDistribution → ContinuousDistribution → Policy → RemyNetwork
+abbrev pub networkFrom : Float → Float → Float → Limit → List ℕ → ℕ → ContinuousDistribution → ContinuousDistribution → Policy → RemyNetwork
 networkFrom delay rate loss limit bits senders on off policy =
     record { delay = delay; rate = rate; loss = loss; limit = limit; bits = bits; senders = senders; on = on; off = off; policy = policy }
+
+-- so many bits for every sender
+abbrev pub bitsAll : ℕ → List ℕ
+bitsAll x = replicate 16 x
 
 abbrev pub always : ContinuousDistribution
 always = Always (power 0)
 
 abbrev pub good : RemyNetwork
-good = networkFrom (power 0) (power 3) zeroF Limit.None 8 1 always always (Held 3)
+good = networkFrom (power 0) (power 3) zeroF Limit.None (bitsAll 8) 1 always always (Held 3)
 
 abbrev pub withDelay : Float → RemyNetwork
-withDelay x = networkFrom x (power 3) zeroF Limit.None 8 1 always always (Held 3)
+withDelay x = networkFrom x (power 3) zeroF Limit.None (bitsAll 8) 1 always always (Held 3)
 
 abbrev pub withRate : Float → RemyNetwork
-withRate x = networkFrom (power 0) x zeroF Limit.None 8 1 always always (Held 3)
+withRate x = networkFrom (power 0) x zeroF Limit.None (bitsAll 8) 1 always always (Held 3)
 
 abbrev pub withLoss : Float → RemyNetwork
-withLoss x = networkFrom (power 0) (power 3) x Limit.None 8 1 always always (Held 3)
+withLoss x = networkFrom (power 0) (power 3) x Limit.None (bitsAll 8) 1 always always (Held 3)
 
 abbrev pub withLimit : Limit → RemyNetwork
-withLimit x = networkFrom (power 0) (power 3) zeroF x 8 1 always always (Held 3)
+withLimit x = networkFrom (power 0) (power 3) zeroF x (bitsAll 8) 1 always always (Held 3)
 
 abbrev pub withBits : ℕ → RemyNetwork
-withBits x = networkFrom (power 0) (power 3) zeroF Limit.None x 1 always always (Held 3)
+withBits x = networkFrom (power 0) (power 3) zeroF Limit.None (bitsAll x) 1 always always (Held 3)
+
+-- these bits, the first of so many senders' own
+abbrev pub withSizes : List ℕ → ℕ → RemyNetwork
+withSizes x n = networkFrom (power 0) (power 3) zeroF Limit.None x n always always (Held 3)
 
 abbrev pub withSenderCount : ℕ → RemyNetwork
-withSenderCount x = networkFrom (power 0) (power 3) zeroF Limit.None 8 x always always (Held 3)
+withSenderCount x = networkFrom (power 0) (power 3) zeroF Limit.None (bitsAll 8) x always always (Held 3)
 
 abbrev pub withOn : ContinuousDistribution → RemyNetwork
-withOn x = networkFrom (power 0) (power 3) zeroF Limit.None 8 1 x always (Held 3)
+withOn x = networkFrom (power 0) (power 3) zeroF Limit.None (bitsAll 8) 1 x always (Held 3)
 
 abbrev pub withOff : ContinuousDistribution → RemyNetwork
-withOff x = networkFrom (power 0) (power 3) zeroF Limit.None 8 1 always x (Held 3)
+withOff x = networkFrom (power 0) (power 3) zeroF Limit.None (bitsAll 8) 1 always x (Held 3)
 
 abbrev pub withPolicy : Policy → RemyNetwork
-withPolicy x = networkFrom (power 0) (power 3) zeroF Limit.None 8 1 always always x
+withPolicy x = networkFrom (power 0) (power 3) zeroF Limit.None (bitsAll 8) 1 always always x
 
 -- the numbers of a network with this on time, and of one with this off time
 abbrev pub stopsWith : ContinuousDistribution → List ℕ
@@ -149,6 +158,16 @@ ranges =
     ∷ (networkStop (withSenderCount 0) ≡ 0)
     ∷ (networkStop (withSenderCount 16) ≡ 0)
     ∷ (networkStop (withSenderCount 17) ≡ 5)
+    -- each sender's own bits are read, the first's and the last's too,
+    ∷ (networkStop (withSizes (1 ∷ 16777216 ∷ []) 2) ≡ 0)
+    ∷ (networkStop (withSizes (0 ∷ 8 ∷ []) 2) ≡ 5)
+    ∷ (networkStop (withSizes (8 ∷ 0 ∷ []) 2) ≡ 5)
+    ∷ (networkStop (withSizes (8 ∷ 16777217 ∷ []) 2) ≡ 5)
+    ∷ (networkStop (withSizes (set (bitsAll 8) 15 0) 16) ≡ 5)
+    -- and those of no other place; none where no sender is
+    ∷ (networkStop (withSizes (set (bitsAll 8) 15 0) 15) ≡ 0)
+    ∷ (networkStop (withSizes (bitsAll 0) 0) ≡ 0)
+    ∷ (networkStop (withSizes (bitsAll 16777217) 0) ≡ 0)
     -- 6: on or off: always v not in 0 < v ≤ 2^20;
     ∷ (stopsWith (Always tiny) ≡ 0 ∷ 0 ∷ [])
     ∷ (stopsWith (Always (power 20)) ≡ 0 ∷ 0 ∷ [])
@@ -185,8 +204,8 @@ ranges =
     ∷ (networkStop (withPolicy (Timed 1 nan)) ≡ 7)
     ∷ (networkStop (withPolicy (Timed 0 leastGap)) ≡ 7)
     ∷ (networkStop (withPolicy (Timed 65 leastGap)) ≡ 7)
-    -- Of several the lowest; and all are tested where no sender is.
-    ∷ (networkStop (networkFrom nan nan nan Limit.None 0 17 always always (Held 0)) ≡ 1)
-    ∷ (networkStop (networkFrom zeroF (power 0) zeroF Limit.None 0 0 (Always nan) always (Held 0)) ≡ 5)
-    ∷ (networkStop (networkFrom zeroF (power 0) zeroF Limit.None 1 0 always (Always nan) (Held 0)) ≡ 6)
+    -- Of several the lowest; and all but the bits are tested where no sender is.
+    ∷ (networkStop (networkFrom nan nan nan Limit.None (bitsAll 0) 17 always always (Held 0)) ≡ 1)
+    ∷ (networkStop (networkFrom zeroF (power 0) zeroF Limit.None (bitsAll 0) 1 (Always nan) always (Held 0)) ≡ 5)
+    ∷ (networkStop (networkFrom zeroF (power 0) zeroF Limit.None (bitsAll 0) 0 always (Always nan) (Held 0)) ≡ 6)
     ∷ []

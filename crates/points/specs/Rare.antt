@@ -3,6 +3,7 @@
 use mathlib.Core.Path.{_≡_}
 use mathlib.Core.List.{List, [], _∷_}
 use Prim.Native.Nat.{ℕ}
+use lib.ListN.{replicate}
 use Rattle.quantities.specs.declared.time.Time.{Time}
 use Rattle.quantities.specs.declared.time.OptionTime.{OptionTime}
 use Rattle.quantities.specs.declared.time.OptionTime.the-variants.{None, Some}
@@ -76,7 +77,7 @@ rare =
     ∷ (emptyNetwork .rate ≡ double 0x3ff0000000000000)
     ∷ (emptyNetwork .loss ≡ double 0x0000000000000000)
     ∷ (emptyNetwork .limit ≡ Limit.None)
-    ∷ (emptyNetwork .bits ≡ 1)
+    ∷ (emptyNetwork .bits ≡ replicate 16 1)
     ∷ (emptyNetwork .senders ≡ 0)
     ∷ (emptyNetwork .on ≡ Always (double 0x3ff0000000000000))
     ∷ (emptyNetwork .off ≡ Always (double 0x3ff0000000000000))

@@ -26,14 +26,14 @@ use Rattle.remy.specs.declared.simulation.Next.the-variants as Next
 use Rattle.remy.specs.declared.simulation.Simulation.{Simulation}
 use Rattle.remy.specs.declared.simulation.TickRecord.{TickRecord}
 use Rattle.remy.specs.Network.{between}
-use Rattle.remy.specs.State.{senderAt, meterAt, waitingItems, onLineItems, onLinePackets, senderBits, packetBits, totalBits, withLine, withWaiting, withOnLine, withMeter}
-use Rattle.remy.specs.Build.{blankPacket, blankTransit, buildOf}
+use Rattle.remy.specs.State.{senderAt, meterAt, waitingItems, waitingPackets, onLineItems, onLinePackets, senderBits, totalBits, withLine, withWaiting, withOnLine, withMeter}
+use Rattle.remy.specs.Build.{blankWaiting, blankTransit, buildOf}
 use Rattle.remy.specs.Tick.{tickOf}
 use Rattle.remy.specs.History.{Call, tick, ticks, after, history, Fresh, idOf, ids, times, admissions, droppedFull, lost, counted, old, ignored}
 use Rattle.remy.specs.History.{starts as startsIn, leaves as leavesIn}
 use Rattle.remy.specs.Account.{total, ofSender, isPacket, everywhere, Spaced, Limited, Account}
 use Rattle.points.specs.Worked.{none}
-use Rattle.points.specs.Unfit.{three, toggleTime, packetOf, transitOf, linkSampled, onSince1, onUntil101, withNetwork}
+use Rattle.points.specs.Unfit.{three, toggleTime, packetOf, waitsOf, transitOf, linkSampled, onSince1, onUntil101, withNetwork}
 
 -- ---- a network, a history and a last state, and what each clause of the account says of them
 
@@ -44,10 +44,10 @@ pub record Case : Type 0 where
 
 pub data Clause : Type 0 where
   network sent books once meter : Clause
-  starts leaves arrival spacing bits limit : Clause
+  starts leaves arrival spacing bits carried limit : Clause
 
 abbrev pub clauses : List Clause
-clauses = network ∷ sent ∷ books ∷ once ∷ meter ∷ starts ∷ leaves ∷ arrival ∷ spacing ∷ bits ∷ limit ∷ []
+clauses = network ∷ sent ∷ books ∷ once ∷ meter ∷ starts ∷ leaves ∷ arrival ∷ spacing ∷ bits ∷ carried ∷ limit ∷ []
 
 abbrev pub Says : RemyNetwork → List TickRecord → Simulation → Clause → Type 0
 Says n h s network = s .network ≡ n
@@ -56,7 +56,7 @@ Says n h s books =
     (i : ℕ) → i < n .senders
     → senderAt s i .«packets_sent»
     ≡ total (ofSender i) (droppedFull h)
-    + total (ofSender i) (map idOf (waitingItems s))
+    + total (ofSender i) (map idOf (waitingPackets s))
     + total (ofSender i) (map idOf (onLinePackets s))
     + total (ofSender i) (lost h)
     + total (ofSender i) (counted h)
@@ -64,11 +64,12 @@ Says n h s books =
     + total (ofSender i) (ignored h)
 Says n h s once = (i m : ℕ) → total (isPacket i m) (everywhere h s) ≡ cond (ltb i (n .senders) && between 1 (senderAt s i .«packets_sent») m) 1 0
 Says n h s meter = (i : ℕ) → i < n .senders → meterAt s i .records ≡ total (ofSender i) (counted h)
-Says n h s starts = ids (admissions h) ≡ ids (startsIn h) ++ map idOf (waitingItems s)
+Says n h s starts = ids (admissions h) ≡ ids (startsIn h) ++ map (λ x. idOf (x .packet)) (waitingItems s)
 Says n h s leaves = ids (startsIn h) ≡ ids (leavesIn h) ++ map (λ x. idOf (x .packet)) (onLineItems s)
 Says n h s arrival = times (leavesIn h) ≡ map (λ t. spanAfter t (spanOf (n .delay))) (take (length (leavesIn h)) (times (startsIn h)))
 Says n h s spacing = Spaced (λ x. amountOverRate (senderBits n (x .sender)) (rateOf (n .rate))) (startsIn h)
-Says n h s bits = s .line .«buffer_contains» .0 ≡ totalBits (λ p. packetBits n p .0) (waitingItems s)
+Says n h s bits = s .line .«buffer_contains» .0 ≡ totalBits (waitingItems s)
+Says n h s carried = map (λ x. x .bits .0) (waitingItems s) ≡ map (λ x. senderBits n (x .packet .sender) .0) (waitingItems s)
 Says n h s limit = Limited (n .limit) (s .line .«buffer_contains» .0)
 
 -- clauses by their places, and whether one is in a list
@@ -83,7 +84,8 @@ placeOf leaves = 6
 placeOf arrival = 7
 placeOf spacing = 8
 placeOf bits = 9
-placeOf limit = 10
+placeOf carried = 10
+placeOf limit = 11
 
 abbrev pub isIn : List Clause → Clause → Bool
 isIn [] c = false
@@ -114,7 +116,7 @@ networkWith loss most =
       rate = power 3;
       loss = loss;
       limit = most;
-      bits = 8;
+      bits = replicate 16 8;
       senders = 1;
       on = Always (fin false 25 (pos 2));
       off = Always (power 0);
@@ -165,12 +167,12 @@ tenth =
             rng = linkSampled;
           };
       waiting =
-          packetOf 0 1 (power 0)
-          ∷ packetOf 0 2 (power 0)
-          ∷ packetOf 0 3 (power 0)
-          ∷ packetOf 0 4 (power 0)
-          ∷ packetOf 0 5 (power 0)
-          ∷ replicate 507 blankPacket;
+          waitsOf (packetOf 0 1 (power 0))
+          ∷ waitsOf (packetOf 0 2 (power 0))
+          ∷ waitsOf (packetOf 0 3 (power 0))
+          ∷ waitsOf (packetOf 0 4 (power 0))
+          ∷ waitsOf (packetOf 0 5 (power 0))
+          ∷ replicate 507 blankWaiting;
       «on_line» =
           transitOf (packetOf 0 1 (power 0)) three
           ∷ transitOf (packetOf 0 2 (power 0)) (power 2)
@@ -207,7 +209,7 @@ waitingWith contains count =
 
 -- packets d and e wait; b and c are on the line
 abbrev pub waitingAre : Simulation → ℕ → ℕ → Simulation
-waitingAre s d e = withWaiting s (set (set (s .waiting) 3 (packetOf 0 d (power 0))) 4 (packetOf 0 e (power 0)))
+waitingAre s d e = withWaiting s (set (set (s .waiting) 3 (waitsOf (packetOf 0 d (power 0)))) 4 (waitsOf (packetOf 0 e (power 0))))
 
 abbrev pub onLineAre : Simulation → ℕ → ℕ → Simulation
 onLineAre s b c = withOnLine s (set (set (s .«on_line») 1 (transitOf (packetOf 0 b (power 0)) (power 2))) 2 (transitOf (packetOf 0 c (power 0)) (fin false 5 (pos 0))))

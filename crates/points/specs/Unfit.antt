@@ -17,6 +17,7 @@ use Rattle.rand.specs.declared.generator.Rng.{Rng}
 use Rattle.rand.specs.Generator.{allZero, fromWords}
 use Rattle.meters.specs.Meter.{newMeter}
 use Rattle.link.specs.declared.packet.Packet.{Packet}
+use Rattle.link.specs.declared.packet.Waiting.{Waiting}
 use Rattle.link.specs.declared.packet.Transit.{Transit}
 use Rattle.link.specs.declared.link.Limit.the-variants as Limit
 use Rattle.sender.specs.declared.lossy.Policy.the-variants.{Held, Timed}
@@ -31,12 +32,13 @@ use Rattle.remy.specs.declared.network.RemyNetwork.{RemyNetwork}
 use Rattle.remy.specs.declared.simulation.Next.{Next}
 use Rattle.remy.specs.declared.simulation.Next.the-variants as Next
 use Rattle.remy.specs.declared.simulation.Simulation.{Simulation}
-use Rattle.remy.specs.State.{noSender, noToggler, noMeter, senderAt, togglerAt, meterAt, queuedAt, waitingItems, onLineItems, onLinePackets, withHead, withLine, withWaiting, withOnLine, withSender, withToggler, withMeter, withQueued}
+use Rattle.remy.specs.State.{noSender, noToggler, noMeter, senderAt, togglerAt, meterAt, queuedAt, waitingPackets, onLineItems, onLinePackets, withHead, withLine, withWaiting, withOnLine, withSender, withToggler, withMeter, withQueued}
 use Rattle.remy.specs.Queue.{nextTimeOf}
-use Rattle.remy.specs.Build.{newLine, newSender, blankWords, blankPacket, blankTransit, blankToggler, emptySimulation}
+use Rattle.remy.specs.Build.{newLine, newSender, blankWords, blankWaiting, blankTransit, blankToggler, emptySimulation}
 use Rattle.remy.specs.Tick.{unmoved, tickOf}
-use Rattle.remy.specs.Fit.{every, upTo, eachSender, networkFit, packetFit, bitsFit, clockFit, held, heldIfAny, isIdle, heldSender, heldQueued, isNext, sinceStart, startedFit, meterStartFit, totalsFit, sumsFit, recordsFit, dueFit, countsFit, windowsFit, timersFit, togglersAgree, metersAgree, meterBitsFit, sameTime, nextFit, fit}
-use Rattle.points.specs.Ranges.{double, minusZero, belowZero, tiny, good, withDelay, withRate, withLoss, withLimit, withBits, withSenderCount, withOn, withPolicy}
+use Rattle.remy.specs.Network.{upTo}
+use Rattle.remy.specs.Fit.{every, eachSender, networkFit, packetFit, bitsFit, clockFit, held, heldIfAny, isIdle, heldSender, heldQueued, isNext, sinceStart, startedFit, meterStartFit, totalsFit, sumsFit, recordsFit, dueFit, countsFit, windowsFit, timersFit, togglersAgree, metersAgree, meterBitsFit, sameTime, nextFit, carriedFit, fit}
+use Rattle.points.specs.Ranges.{double, minusZero, belowZero, tiny, good, bitsAll, withDelay, withRate, withLoss, withLimit, withBits, withSizes, withSenderCount, withOn, withPolicy}
 use Rattle.points.specs.Worked.{worked, workedAfter}
 
 -- ---- three states: the worked example built and after seven ticks, and the empty simulation
@@ -53,6 +55,10 @@ toggleTime = fin false 101 (pos 0)
 
 abbrev pub packetOf : ℕ → ℕ → Float → Packet
 packetOf sender seq sent = record { sender = sender; seq = seq; «sent_time» = timeOf sent }
+
+-- a packet that waits, of 8 bits
+abbrev pub waitsOf : Packet → Waiting
+waitsOf p = record { packet = p; bits = amountOf 8 }
 
 abbrev pub transitOf : Packet → Float → Transit
 transitOf p due = record { packet = p; due = timeOf due }
@@ -90,7 +96,7 @@ busy =
             «on_line» = record { start = 1; count = 1 };
             rng = linkSampled;
           };
-      waiting = packetOf 0 1 (power 0) ∷ packetOf 0 2 (power 0) ∷ packetOf 0 4 (power 1) ∷ replicate 509 blankPacket;
+      waiting = waitsOf (packetOf 0 1 (power 0)) ∷ waitsOf (packetOf 0 2 (power 0)) ∷ waitsOf (packetOf 0 4 (power 1)) ∷ replicate 509 blankWaiting;
       «on_line» = transitOf (packetOf 0 1 (power 0)) (power 1) ∷ transitOf (packetOf 0 2 (power 0)) three ∷ replicate 510 blankTransit;
       senders = onSince1 4 3;
       togglers = onUntil101;
@@ -107,7 +113,7 @@ quiet =
       network = worked;
       head = record { clock = timeOf (power 0); next = Next.Part 2 };
       line = newLine (fromWords 14971601782005023387 13781649495232077965 1847458086238483744 13765271635752736470);
-      waiting = replicate 512 blankPacket;
+      waiting = replicate 512 blankWaiting;
       «on_line» = replicate 512 blankTransit;
       senders = newSender ownWords ∷ replicate 15 (newSender blankWords);
       togglers = record { enabled = false; «next_toggle» = timeOf (power 0); rng = toggleWords } ∷ replicate 15 blankToggler;
@@ -164,7 +170,11 @@ withWaitingBits s x = lineWith s three x 2 1 1 1
 
 -- the first that waits, and the first on the line
 abbrev pub withFirst : Simulation → Packet → Simulation
-withFirst s x = withWaiting s (set (s .waiting) 2 x)
+withFirst s x = withWaiting s (set (s .waiting) 2 (waitsOf x))
+
+-- the first that waits carries so many bits, and as many wait
+abbrev pub withCarried : Simulation → ℕ → Simulation
+withCarried s x = withWaitingBits (withWaiting s (set (s .waiting) 2 (record { packet = packetOf 0 4 (power 1); bits = amountOf x }))) x
 
 abbrev pub withFront : Simulation → Transit → Simulation
 withFront s x = withOnLine s (set (s .«on_line») 1 x)
@@ -248,7 +258,7 @@ withRttSum s x = meterWith s zeroF (Some (timeOf (power 0))) 8 1 x
 
 -- so many wait from this place on, each packet 0:1; so many are on the line
 abbrev pub waiters : ℕ → ℕ → Simulation
-waiters start count = lineWith (withWaiting (withSent busy 1000) (replicate 512 (packetOf 0 1 (power 0)))) three (count * 8) start count 1 1
+waiters start count = lineWith (withWaiting (withSent busy 1000) (replicate 512 (waitsOf (packetOf 0 1 (power 0))))) three (count * 8) start count 1 1
 
 abbrev pub travellers : ℕ → ℕ → Simulation
 travellers start count = lineWith (withOnLine (withSent busy 1000) (replicate 512 (transitOf (packetOf 0 1 (power 0)) three))) three 8 2 1 start count
@@ -294,7 +304,7 @@ pub data Test : Type 0 where
   heldClock heldStart heldWaiting heldOnLine heldDue heldBySender heldToggle heldByMeter heldQueue : Test
   pastWaiting pastOnLine pastStarted pastMeter : Test
   total rttSum records due counts window timer toggler meter meterBits : Test
-  next others : Test
+  next others carried : Test
   linkWords senderWords togglerWords : Test
 
 -- a test, and whether a state passes it
@@ -312,20 +322,20 @@ rows s =
     ∷ row onLineCount (leb (s .line .«on_line» .count) places)
     ∷ row waitingStart (ltb (s .line .waiting .start) places)
     ∷ row onLineStart (ltb (s .line .«on_line» .start) places)
-    ∷ row waitingPacket (every (packetFit s) (waitingItems s))
+    ∷ row waitingPacket (every (packetFit s) (waitingPackets s))
     ∷ row onLinePacket (every (packetFit s) (onLinePackets s))
     ∷ row waitingBits (bitsFit s)
     ∷ row clock (clockFit s)
     ∷ row heldClock (held (s .head .clock) || (isIdle (s .head .next) && eq (s .head .clock .0 .0) largest))
     ∷ row heldStart (held (s .line .«earliest_transmit»))
-    ∷ row heldWaiting (every (λ p. held (p .«sent_time»)) (waitingItems s))
+    ∷ row heldWaiting (every (λ p. held (p .«sent_time»)) (waitingPackets s))
     ∷ row heldOnLine (every (λ p. held (p .«sent_time»)) (onLinePackets s))
     ∷ row heldDue (every (λ x. held (x .due)) (onLineItems s))
     ∷ row heldBySender (eachSender s (λ i. heldSender (senderAt s i .state)))
     ∷ row heldToggle (eachSender s (λ i. held (togglerAt s i .«next_toggle»)))
     ∷ row heldByMeter (eachSender s (λ i. heldIfAny (meterAt s i .«current_start»)))
     ∷ row heldQueue (upTo queuePlaces (λ k. heldQueued s (queuedAt s k)))
-    ∷ row pastWaiting (every (λ p. sinceStart s (p .«sent_time»)) (waitingItems s))
+    ∷ row pastWaiting (every (λ p. sinceStart s (p .«sent_time»)) (waitingPackets s))
     ∷ row pastOnLine (every (λ p. sinceStart s (p .«sent_time»)) (onLinePackets s))
     ∷ row pastStarted (eachSender s (λ i. startedFit s (senderAt s i .state)))
     ∷ row pastMeter (eachSender s (λ i. meterStartFit s (meterAt s i .«current_start»)))
@@ -341,6 +351,7 @@ rows s =
     ∷ row meterBits (meterBitsFit s)
     ∷ row next (nextFit s (s .head .next))
     ∷ row others (upTo queuePlaces (λ k. isNext (s .head .next) k || sameTime (queuedAt s k) (nextTimeOf s k)))
+    ∷ row carried (carriedFit s)
     ∷ row linkWords (not (allZero (s .line .rng)))
     ∷ row senderWords (eachSender s (λ i. not (allZero (senderAt s i .rng))))
     ∷ row togglerWords (eachSender s (λ i. not (allZero (togglerAt s i .rng))))
@@ -535,6 +546,17 @@ unfit =
     -- or not queued with one.
     ∷ Unfit (others ∷ []) (withQueued busy 2 None)
     ∷ Unfit (others ∷ []) (withNext quiet Next.None)
+    -- Document 02, K1: a waiting packet that carries other bits than its sender's,
+    ∷ Fit (withCarried busy 8)
+    ∷ Unfit (carried ∷ []) (withCarried busy 7)
+    ∷ Unfit (carried ∷ []) (withCarried busy 9)
+    ∷ Unfit (carried ∷ []) (withCarried busy 18446744073709551615)
+    -- and what it carries beside the waiting bits: one of them is not enough.
+    ∷ Unfit (waitingBits ∷ carried ∷ []) (withWaitingBits (withCarried busy 7) 8)
+    -- No clause reads the bits of places above the senders.
+    ∷ Fit (withNetwork busy (withSizes (8 ∷ []) 1))
+    ∷ Fit (withNetwork busy (withSizes (8 ∷ 0 ∷ 16777217 ∷ []) 1))
+    ∷ Fit (withNetwork empty (withSizes (bitsAll 0) 0))
     -- Document 02, K5: four zero words, in the generator of the link, one word of four being enough,
     ∷ Fit (withLinkWords busy (wordsOnly 1 0 0 0))
     ∷ Fit (withLinkWords busy (wordsOnly 0 1 0 0))

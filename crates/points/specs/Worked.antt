@@ -4,6 +4,7 @@ use mathlib.Core.Bool.{Bool, true, false}
 use mathlib.Core.List.{List, [], _∷_, map}
 use Prim.Native.Nat.{ℕ, zero, suc}
 use lib.IntN.{pos}
+use lib.ListN.{replicate}
 use lib.Ieee.{fin, binary64, ofBits}
 use Rattle.quantities.specs.declared.time.Time.{Time}
 use Rattle.quantities.specs.Doubles.{zeroF, power}
@@ -72,7 +73,7 @@ worked =
       rate = power 3;
       loss = zeroF;
       limit = Limit.Bits 8;
-      bits = 8;
+      bits = replicate 16 8;
       senders = 1;
       on = Always (fin false 25 (pos 2));
       off = Always (power 0);
@@ -117,7 +118,7 @@ nearby =
       rate = power 3;
       loss = zeroF;
       limit = Limit.None;
-      bits = 8;
+      bits = replicate 16 8;
       senders = 1;
       on = Always (power 0);
       off = Always (power 0);

@@ -1,12 +1,12 @@
 -- What the tests of network and line show where they pass: bounds of the numbers that later tests read. Assumes nothing.
-use Prim.Native.Nat.{ℕ, _*_, _^_, _≤_, _<_}
-use mathlib.Core.Path.{_≡_, sym, _∙_}
-use mathlib.Core.Bool.{Bool, true, false, not, _&&_}
-use native.Mathlib.Nat.{mul-le-mul}
-use native.Mathlib.Omega.{arith}
+use Prim.Native.Nat.{ℕ, _≤_, _<_}
+use mathlib.Core.Path.{_≡_}
+use mathlib.Core.Bool.{true, not, _&&_}
+use mathlib.Core.List.{List}
 use lib.Dec.{leb, ltb, eqb}
+use lib.ListN.{getD}
 use lib.Ieee.{le}
-use borrow.Author.Tests.{leb-true, ltb-true, eqb-true, not-false}
+use borrow.Author.Tests.{leb-true, ltb-true, eqb-true}
 use Rattle.quantities.specs.Doubles.{zeroF}
 use Rattle.rand.specs.Generator.{allZero}
 use Rattle.link.specs.declared.ring.Ring.{Ring}
@@ -20,20 +20,16 @@ use Rattle.remy.proofs.Facts.{both-l, both-r}
 use Rattle.remy.proofs.Networks.{fit-network, few-senders, few-bits}
 use Rattle.ranges.specs.Frame.{ringsTest, clockHeld, frameTest}
 
--- a product of numbers below their bounds
-pub product-fits : (a b m n : ℕ) → a ≤ m → b ≤ n → m * n < 2 ^ 64 → a * b < 2 ^ 64
-product-fits a b m n h k f = let p : a * b ≤ m * n = mul-le-mul h k in omega arith
-
--- what later tests rely on, which `frameTest` shows: few senders and bits, and rings with starts and counts in their ranges
-pub record Framed (bits n : ℕ) (waits moves : Ring) : Type 0 where
-  pub small : bits ≤ 16777216
+-- what later tests rely on, which `frameTest` shows: few senders, few bits in the packets of each, and rings with starts and counts in their ranges
+pub record Framed (sizes : List ℕ) (n : ℕ) (waits moves : Ring) : Type 0 where
+  pub small : (i : ℕ) → i < n → getD sizes i 0 ≤ 16777216
   pub few : n ≤ 16
   pub wstart : waits .start < 512
   pub wcount : waits .count ≤ 512
   pub mstart : moves .start < 512
   pub mcount : moves .count ≤ 512
 
-pub framed : (n : RemyNetwork) (l : Line) → networkStop n ≡ 0 → ringsTest l ≡ true → Framed (n .bits) (n .senders) (l .waiting) (l .«on_line»)
+framed : (n : RemyNetwork) (l : Line) → networkStop n ≡ 0 → ringsTest l ≡ true → Framed (n .bits) (n .senders) (l .waiting) (l .«on_line»)
 unfolding ringsTest
 framed n l e r =
     let a = leb (l .waiting .count) places in
@@ -51,20 +47,14 @@ framed n l e r =
       mcount = leb-true (l .«on_line» .count) places (both-r a b ab);
     }
 
-frame-framed : (n : RemyNetwork) (h : Head) (l : Line) → frameTest n h l ≡ true → Framed (n .bits) (n .senders) (l .waiting) (l .«on_line»)
+pub frame-framed : (n : RemyNetwork) (h : Head) (l : Line) → frameTest n h l ≡ true → Framed (n .bits) (n .senders) (l .waiting) (l .«on_line»)
 unfolding frameTest
 frame-framed n h l e =
     let a = eqb (networkStop n) 0 in
     let b = ringsTest l in
-    let c = eqb (l .«buffer_contains» .0) (l .waiting .count * n .bits) in
-    let d = le zeroF (h .clock .0 .0) in
-    let f = clockHeld h in
-    let g = held (l .«earliest_transmit») in
-    let to-start = both-l (a && b && c && d && f && g) (not (allZero (l .rng))) e in
-    let ab = both-l (a && b) c (both-l (a && b && c) d (both-l (a && b && c && d) f (both-l (a && b && c && d && f) g to-start))) in
+    let c = le zeroF (h .clock .0 .0) in
+    let d = clockHeld h in
+    let f = held (l .«earliest_transmit») in
+    let to-start = both-l (a && b && c && d && f) (not (allZero (l .rng))) e in
+    let ab = both-l (a && b) c (both-l (a && b && c) d (both-l (a && b && c && d) f to-start)) in
     framed n l (eqb-true (networkStop n) 0 (both-l a b ab)) (both-r a b ab)
-
--- from the result of the test
-pub passed-frame : (n : RemyNetwork) (h : Head) (l : Line) (r : Bool) → r ≡ frameTest n h l → not r ≡ false
-    → Framed (n .bits) (n .senders) (l .waiting) (l .«on_line»)
-passed-frame n h l r e t = frame-framed n h l (sym e ∙ not-false r t)

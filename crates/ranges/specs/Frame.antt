@@ -1,5 +1,4 @@
 -- The clauses of `fit` (the crate `remy`, specs/Fit.antt) that read the network, the head and the line, and not the packets. Definitions only.
-use Prim.Native.Nat.{_*_}
 use mathlib.Core.Bool.{Bool, not, _&&_, _||_}
 use lib.Dec.{leb, ltb, eqb}
 use lib.Ieee.{le, eq}
@@ -25,12 +24,11 @@ ringsTest l =
 unfoldable pub clockHeld : Head → Bool
 clockHeld h = held (h .clock) || isIdle (h .next) && eq (h .clock .0 .0) largest
 
--- the network, the rings, the waiting bits, the clock, the earliest start, the words of the generator
+-- the network, the rings, the clock, the earliest start, the words of the generator
 unfoldable pub frameTest : RemyNetwork → Head → Line → Bool
 frameTest n h l =
     eqb (networkStop n) 0
     && ringsTest l
-    && eqb (l .«buffer_contains» .0) (l .waiting .count * n .bits)
     && le zeroF (h .clock .0 .0)
     && clockHeld h
     && held (l .«earliest_transmit»)

@@ -19,11 +19,6 @@ pub fn frame_fit(network: RemyNetwork, head: Head, line: Line) -> bool
     if !rings_fit(line) {
         return false;
     }
-    let waiting = line.waiting;
-    let contains = line.buffer_contains;
-    if contains.0 != waiting.count as u64 * network.bits {
-        return false;
-    }
     let clock = head.clock;
     if 0.0 <= clock.0.0 {
         if !clock_held(head) {

@@ -17,12 +17,13 @@ pub fn network_stop(network: RemyNetwork) -> u32
     ensures { λ r. ⌜ r ≡ networkStop network ⌝ }
 {
     let limit = network.limit;
+    let bits = network.bits;
     let on = network.on;
     let off = network.off;
     let policy = network.policy;
     let from_7 = stop_unless(policy_fit(policy), 7, 0);
     let from_6 = stop_unless(times_fit(on), 6, stop_unless(times_fit(off), 6, from_7));
-    let from_5 = stop_unless(sizes_fit(network.bits, network.senders), 5, from_6);
+    let from_5 = stop_unless(sizes_fit(bits, network.senders), 5, from_6);
     let from_4 = stop_unless(limit_fit(limit), 4, from_5);
     let from_3 = stop_unless(in_range(0.0, 1.0, network.loss), 3, from_4);
     let from_2 = stop_unless(in_range(1.0, 1125899906842624.0, network.rate), 2, from_3);
@@ -46,17 +47,25 @@ fn limit_fit(limit: Limit) -> bool
     }
 }
 
-// Whether a packet has 1 to 2^24 bits, and there are at most 16 senders.
-fn sizes_fit(bits: u64, senders: u32) -> bool
+// Whether there are at most 16 senders, and the packets of each have 1 to 2^24 bits.
+fn sizes_fit(bits: [u64; 16], senders: u32) -> bool
     ensures { λ r. ⌜ r ≡ sizesFit bits senders ⌝ }
 {
-    if bits < 1 {
+    if senders > 16 {
         return false;
     }
-    if bits > 16777216 {
-        return false;
+    let mut i: u32 = 0;
+    while i < senders {
+        let size = bits[i as usize];
+        if size < 1 {
+            return false;
+        }
+        if size > 16777216 {
+            return false;
+        }
+        i += 1;
     }
-    senders <= 16
+    true
 }
 
 // Whether the times that a distribution draws are in their range.

@@ -16,7 +16,7 @@ use Rattle.remy.specs.declared.simulation.Simulation.{Simulation}
 use Rattle.remy.specs.declared.simulation.Mark.{Mark}
 use Rattle.remy.specs.declared.simulation.TickRecord.{TickRecord}
 use Rattle.remy.specs.declared.simulation.Ticked.{Ticked}
-use Rattle.remy.specs.State.{roleOf, waitingItems, onLineItems, onLinePackets}
+use Rattle.remy.specs.State.{roleOf, waitingItems, waitingPackets, onLineItems, onLinePackets}
 use Rattle.remy.specs.Fit.{fit}
 use Rattle.remy.specs.Tick.{Outcome, moves, stops, outcomeOf, unmoved, ticked, tickNext, tickOf}
 use Rattle.remy.specs.HeldTimes.{Has}
@@ -156,14 +156,14 @@ module _ (f : PacketId → ℕ) (h : List TickRecord) where
   module _ (s : Simulation) where
     -- the seven places one by one
     abbrev places : ℕ
-    places = total f (droppedFull h) + (total f (map idOf (waitingItems s)) + (total f (map idOf (onLinePackets s)) + (total f (lost h) + (total f (counted h) + (total f (old h) + total f (ignored h))))))
+    places = total f (droppedFull h) + (total f (map idOf (waitingPackets s)) + (total f (map idOf (onLinePackets s)) + (total f (lost h) + (total f (counted h) + (total f (old h) + total f (ignored h))))))
 
     pub everywhere-split : total f (everywhere h s) ≡ places
     everywhere-split =
         total-append f (droppedFull h) _
         ∙ ap (λ (c : ℕ). total f (droppedFull h) + c)
-        (total-append f (map idOf (waitingItems s)) _
-        ∙ ap (λ (c : ℕ). total f (map idOf (waitingItems s)) + c)
+        (total-append f (map idOf (waitingPackets s)) _
+        ∙ ap (λ (c : ℕ). total f (map idOf (waitingPackets s)) + c)
         (total-append f (map idOf (onLinePackets s)) _
         ∙ ap (λ (c : ℕ). total f (map idOf (onLinePackets s)) + c)
         (total-append f (lost h) _
@@ -172,12 +172,13 @@ module _ (f : PacketId → ℕ) (h : List TickRecord) where
         ∙ ap (λ (c : ℕ). total f (counted h) + c) (total-append f (old h) (ignored h))))))
 
     -- every packet sent is in one of them
-    pub partition : ids (admissions h) ≡ ids (starts h) ++ map idOf (waitingItems s)
+    pub partition : ids (admissions h) ≡ ids (starts h) ++ map (λ x. idOf (x .packet)) (waitingItems s)
         → ids (starts h) ≡ ids (leaves h) ++ map (λ x. idOf (x .packet)) (onLineItems s)
         → total f (ids (sends h)) ≡ places
     partition admitted started =
-        let begun : total f (ids (admissions h)) ≡ total f (ids (starts h)) + total f (map idOf (waitingItems s)) =
-        ap (total f) admitted ∙ total-append f (ids (starts h)) (map idOf (waitingItems s)) in
+        let begun : total f (ids (admissions h)) ≡ total f (ids (starts h)) + total f (map idOf (waitingPackets s)) =
+        ap (total f) (admitted ∙ ap (λ (l : List PacketId). ids (starts h) ++ l) (sym (map-map idOf (λ x. x .packet) (waitingItems s))))
+        ∙ total-append f (ids (starts h)) (map idOf (waitingPackets s)) in
         let left : total f (ids (starts h)) ≡ total f (ids (leaves h)) + total f (map idOf (onLinePackets s)) =
         ap (total f) (started ∙ ap (λ (l : List PacketId). ids (leaves h) ++ l) (sym (map-map idOf (λ x. x .packet) (onLineItems s))))
         ∙ total-append f (ids (leaves h)) (map idOf (onLinePackets s)) in

@@ -2,7 +2,7 @@
 -- The crate `points` has the worked example whole. Assumes nothing.
 use mathlib.Core.Path.{_≡_, refl}
 use mathlib.Core.Bool.{false}
-use mathlib.Core.List.{[], _∷_}
+use mathlib.Core.List.{List, [], _∷_}
 use Prim.Native.Nat.{ℕ}
 use lib.IntN.{pos}
 use lib.ListN.{replicate}
@@ -38,23 +38,27 @@ five = fin false 5 (pos 0)
 abbrev hundred : Float
 hundred = fin false 25 (pos 2)
 
--- rate 8, loss 0, bits 8, one sender, on and off always so long; seed 1
-abbrev builtWith : Float → Limit → Float → Float → Policy → Simulation
-builtWith delay limit on off policy =
+-- rate 8, loss 0, so many senders with these bits, on and off always so long; seed 1
+abbrev builtOf : List ℕ → ℕ → Float → Limit → Float → Float → Policy → Simulation
+builtOf sizes senders delay limit on off policy =
     buildOf
     (record {
       delay = delay;
       rate = power 3;
       loss = zeroF;
       limit = limit;
-      bits = 8;
-      senders = 1;
+      bits = sizes;
+      senders = senders;
       on = Always on;
       off = Always off;
       policy = policy;
     })
     1
     .simulation
+
+-- one sender, bits 8
+abbrev builtWith : Float → Limit → Float → Float → Policy → Simulation
+builtWith delay limit on off policy = builtOf (replicate 16 8) 1 delay limit on off policy
 
 -- on 100, off 1, held
 abbrev pub built : Float → Limit → ℕ → Simulation
@@ -160,6 +164,35 @@ nearby-history : history (ticks 4) (built zeroF Limit.None 1)
     ∷ []
 unfolding ticking
 nearby-history = refl
+
+-- ---- two senders with packets of 8 and of 4 bits, delay 2, limit 16, held 2: admission, starts and the waiting bits go by each packet's own
+
+abbrev pub twoSizes : Simulation
+twoSizes = builtOf (8 ∷ 4 ∷ replicate 14 0) 2 (power 1) (Limit.Bits 16) hundred (power 0) (Held 2)
+
+sizes-history : history (ticks 9) twoSizes
+    ≡ line (power 0) 2 Mark.Enabled none none
+    ∷ line (power 0) 1 Mark.Sent (packet 1) none
+    ∷ line (power 0) 0 Mark.None none (packet 1)
+    ∷ line (power 0) 1 Mark.Sent (packet 2) none
+    ∷ line (power 0) 4 Mark.Enabled none none
+    ∷ line (power 0) 3 Mark.Sent (Name.Packet 1 1) none
+    ∷ line (power 0) 3 Mark.Sent (Name.Packet 1 2) none
+    ∷ line (power 1) 0 Mark.None none (packet 2)
+    ∷ line three 0 Mark.Counted (packet 1) (Name.Packet 1 1)
+    ∷ []
+unfolding ticking
+sizes-history = refl
+
+-- 16 bits wait before 0:2 starts, and 8 after it
+sizes-tally : after (ticks 8) twoSizes .line .«buffer_contains» ≡ amountOf 8
+unfolding ticking
+sizes-tally = refl
+
+-- 1:1, counted at 5, brings 4 bits
+sizes-meter : meterAt (after (ticks 15) twoSizes) 1 .total ≡ amountOf 4
+unfolding ticking
+sizes-meter = refl
 
 -- ---- a NaN queued at the next part's own place, here the toggler's, is refused with 9
 

@@ -12,9 +12,9 @@ use lib.Ieee.Bits.{is-true}
 use Rattle.quantities.specs.Doubles.{inRange}
 use Rattle.rand.specs.Generator.{allZero}
 use Rattle.remy.specs.declared.simulation.Simulation.{Simulation}
-use Rattle.remy.specs.Network.{between}
+use Rattle.remy.specs.Network.{upTo, between}
 use Rattle.remy.specs.State.{senderAt, togglerAt}
-use Rattle.remy.specs.Fit.{every, upTo, eachSender, networkFit, ringsFit, packetsFit, bitsFit, clockFit, heldTimesFit, pastFit, totalsFit, sumsFit, recordsFit, dueFit, countsFit, windowsFit, timersFit, togglersAgree, metersAgree, meterBitsFit, queueFit, wordsFit, fit}
+use Rattle.remy.specs.Fit.{every, eachSender, networkFit, ringsFit, packetsFit, bitsFit, clockFit, heldTimesFit, pastFit, totalsFit, sumsFit, recordsFit, dueFit, countsFit, windowsFit, timersFit, togglersAgree, metersAgree, meterBitsFit, queueFit, carriedFit, wordsFit, fit}
 
 -- ---- conjunctions
 
@@ -85,6 +85,7 @@ pub record FitState (s : Simulation) : Type 0 where
   pub meters : metersAgree s ≡ true
   pub meter-bits : meterBitsFit s ≡ true
   pub queue : queueFit s ≡ true
+  pub carried : carriedFit s ≡ true
   pub words : wordsFit s ≡ true
 
 pub fit-state : (s : Simulation) → fit s ≡ true → FitState s
@@ -107,7 +108,9 @@ fit-state s all =
     let to-meters = to-togglers && metersAgree s in
     let to-meter-bits = to-meters && meterBitsFit s in
     let to-queue = to-meter-bits && queueFit s in
-    let by-queue = both-l to-queue (wordsFit s) all in
+    let to-carried = to-queue && carriedFit s in
+    let by-carried = both-l to-carried (wordsFit s) all in
+    let by-queue = both-l to-queue (carriedFit s) by-carried in
     let by-meter-bits = both-l to-meter-bits (queueFit s) by-queue in
     let by-meters = both-l to-meters (meterBitsFit s) by-meter-bits in
     let by-togglers = both-l to-togglers (metersAgree s) by-meters in
@@ -143,7 +146,8 @@ fit-state s all =
       meters = both-r to-togglers (metersAgree s) by-meters;
       meter-bits = both-r to-meters (meterBitsFit s) by-meter-bits;
       queue = both-r to-meter-bits (queueFit s) by-queue;
-      words = both-r to-queue (wordsFit s) all;
+      carried = both-r to-queue (carriedFit s) by-carried;
+      words = both-r to-carried (wordsFit s) all;
     }
 
 -- ---- the clause on words, taken apart and joined

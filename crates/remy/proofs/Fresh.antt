@@ -40,11 +40,11 @@ use Rattle.remy.specs.declared.network.RemyNetwork.{RemyNetwork}
 use Rattle.remy.specs.declared.simulation.Head.{Head}
 use Rattle.remy.specs.declared.simulation.Simulation.{Simulation}
 use Rattle.remy.specs.declared.simulation.Built.{Built}
-use Rattle.remy.specs.Network.{timesFit, networkStop}
+use Rattle.remy.specs.Network.{upTo, timesFit, networkStop}
 use Rattle.remy.specs.State.{Role, link, sender, toggler, nobody, roleOf, noSender, noToggler, noMeter, senderAt, togglerAt, meterAt, queuedAt, withHead, withQueue}
 use Rattle.remy.specs.Queue.{ownTime, nextTimeOf, partOf, headOf, removed, picked}
 use Rattle.remy.specs.Build.{newLine, newSender, Parts, noParts, populate, unqueued, ownTimes, queuedAll, notBuilt, buildFrom, buildOf}
-use Rattle.remy.specs.Fit.{upTo, eachSender, held, heldIfAny, isIdle, heldSender, heldQueued, isNext, startedFit, meterStartFit, sameTime, nextFit, networkFit, ringsFit, packetsFit, bitsFit, clockFit, heldTimesFit, pastFit, totalsFit, sumsFit, recordsFit, dueFit, countsFit, windowsFit, timersFit, togglersAgree, metersAgree, meterBitsFit, queueFit, wordsFit, fit}
+use Rattle.remy.specs.Fit.{eachSender, held, heldIfAny, isIdle, heldSender, heldQueued, isNext, startedFit, meterStartFit, sameTime, nextFit, networkFit, ringsFit, packetsFit, bitsFit, clockFit, heldTimesFit, pastFit, totalsFit, sumsFit, recordsFit, dueFit, countsFit, windowsFit, timersFit, togglersAgree, metersAgree, meterBitsFit, queueFit, carriedFit, wordsFit, fit}
 use Rattle.remy.proofs.Facts.{both-l, both-r, holds, words-joined}
 use Rattle.remy.proofs.Networks.{fit-network, few-senders}
 use Rattle.remy.proofs.Lists.{All}
@@ -67,9 +67,9 @@ upTo-intro (suc n) f h = rw (upTo-intro n f (λ i k. h i (omega arith)), h n (om
 -- a state is fit where every clause holds
 pub fit-intro : (s : Simulation) → networkFit s ≡ true → ringsFit s ≡ true → packetsFit s ≡ true → bitsFit s ≡ true → clockFit s ≡ true
     → heldTimesFit s ≡ true → pastFit s ≡ true → totalsFit s ≡ true → sumsFit s ≡ true → recordsFit s ≡ true → dueFit s ≡ true → countsFit s ≡ true
-    → windowsFit s ≡ true → timersFit s ≡ true → togglersAgree s ≡ true → metersAgree s ≡ true → meterBitsFit s ≡ true → queueFit s ≡ true → wordsFit s ≡ true → fit s ≡ true
+    → windowsFit s ≡ true → timersFit s ≡ true → togglersAgree s ≡ true → metersAgree s ≡ true → meterBitsFit s ≡ true → queueFit s ≡ true → carriedFit s ≡ true → wordsFit s ≡ true → fit s ≡ true
 unfolding fit
-fit-intro s a b c d e f g h i j k l m n o p q r t = rw (a, b, c, d, e, f, g, h, i, j, k, l, m, n, o, p, q, r, t)
+fit-intro s a b c d e f g h i j k l m n o p q r t u = rw (a, b, c, d, e, f, g, h, i, j, k, l, m, n, o, p, q, r, t, u)
 
 -- what holds of the link, of each sender and each toggler below n, and of nobody, holds of every part's role
 pub role-elim : (P : Role → Type 0) (n k : ℕ) → P link → ((i : ℕ) → i < n → P (sender i)) → ((i : ℕ) → i < n → P (toggler i)) → P nobody
@@ -270,6 +270,10 @@ module _ (s : Simulation) (b : Blank s) where
   unfolding meterBitsFit
   meter-bits-fit = upTo-intro _ _ (λ i h. rw (b .meters i h, zero-mul))
 
+  carried-fit : carriedFit s ≡ true
+  unfolding carriedFit
+  carried-fit = rw (b .line)
+
   words-fit : wordsFit s ≡ true
   words-fit =
       words-joined s
@@ -330,7 +334,7 @@ module _ (s : Simulation) (b : Blank s) (a : Ready s) where
   blank-fit =
       fit-intro s (network-fit s b) (rings-fit s b) (packets-fit s b) (bits-fit s b) clock-fit held-times-fit (past-fit s b) (totals-fit s b) (sums-fit s b)
       (records-fit s b) (due-fit s b) (counts-fit s b) (windows-fit s b) (timers-fit s b) (togglers-agree s b) (meters-agree s b) (meter-bits-fit s b)
-      queue-fit (words-fit s b)
+      queue-fit (carried-fit s b) (words-fit s b)
 
 -- ---- the queue: each part at its own next time
 

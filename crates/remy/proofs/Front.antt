@@ -11,18 +11,20 @@ use Rattle.quantities.specs.declared.time.Time.{Time}
 use Rattle.quantities.specs.declared.time.OptionTime.{OptionTime}
 use Rattle.quantities.specs.declared.time.OptionTime.the-variants.{Some}
 use Rattle.quantities.specs.Doubles.{zeroF, power, inRange}
+use Rattle.quantities.specs.Units.{amountOf, rateOf, amountOverRate}
 use Rattle.quantities.proofs.Order.{le-known-r, not-lt→le}
+use Rattle.quantities.proofs.Ranges.{within}
 use Rattle.meters.specs.Meter.{totalFit, sumFit}
 use Rattle.link.specs.declared.packet.Packet.{Packet}
 use Rattle.link.specs.Ring.{places, items, popped}
-use Rattle.link.proofs.Items.{Sound, items-pop}
+use Rattle.link.proofs.Items.{Sound, items-first, items-pop}
 use Rattle.remy.specs.declared.simulation.Simulation.{Simulation}
 use Rattle.remy.specs.Network.{between, networkStop}
-use Rattle.remy.specs.State.{noPacket, noTransit, senderAt, meterAt, firstOf, frontOf, waitingItems, onLinePackets}
-use Rattle.remy.specs.Fit.{every, eachSender, ringsFit, packetFit, packetsFit, clockFit, sinceStart, startedFit, meterStartFit, pastFit, totalsFit, sumsFit, countOf, recordsFit, ackFit, countsFit, meterBitsFit, networkFit}
+use Rattle.remy.specs.State.{noWaiting, noTransit, senderAt, meterAt, firstOf, frontOf, waitingItems, waitingPackets, onLinePackets, senderBits, packetBits}
+use Rattle.remy.specs.Fit.{every, eachSender, ringsFit, packetFit, packetsFit, clockFit, sinceStart, startedFit, meterStartFit, pastFit, totalsFit, sumsFit, countOf, recordsFit, ackFit, countsFit, meterBitsFit, carries, carriedFit, networkFit}
 use Rattle.remy.specs.HeldTimes.{Full}
 use Rattle.remy.proofs.Facts.{both-l, both-r, upTo-at, every-first, FitState}
-use Rattle.remy.proofs.Networks.{FitNetwork, fit-network, few-bits}
+use Rattle.remy.proofs.Networks.{FitNetwork, fit-network, few-bits, sending-within}
 use Rattle.remy.proofs.Taken.{MeterFacts}
 
 module _ (s : Simulation) (f : FitState s) where
@@ -41,17 +43,24 @@ module _ (s : Simulation) (f : FitState s) where
       (subst (λ (b : Bool). T (not b)) (sym e) tt)
 
   -- both rings, where the arrays have all their places
+  waits-start : s .line .waiting .start < places
+  unfolding ringsFit
+  waits-start =
+      let w = s .line .waiting in
+      let m = s .line .«on_line» in
+      let counts = leb (w .count) places && leb (m .count) places in
+      ltb-true (w .start) places (both-r counts (ltb (w .start) places) (both-l (counts && ltb (w .start) places) (ltb (m .start) places) (f .rings)))
+
   pub rings : Full s → Sound (s .waiting) (s .line .waiting) × Sound (s .«on_line») (s .line .«on_line»)
   unfolding ringsFit
   rings full =
       let w = s .line .waiting in
       let m = s .line .«on_line» in
       let counts = leb (w .count) places && leb (m .count) places in
-      let by-start = both-l (counts && ltb (w .start) places) (ltb (m .start) places) (f .rings) in
-      let by-counts = both-l counts (ltb (w .start) places) by-start in (
+      let by-counts = both-l counts (ltb (w .start) places) (both-l (counts && ltb (w .start) places) (ltb (m .start) places) (f .rings)) in (
         record {
           full = full .waiting;
-          start = ltb-true (w .start) places (both-r counts (ltb (w .start) places) by-start);
+          start = waits-start;
           count = leb-true (w .count) places (both-l (leb (w .count) places) (leb (m .count) places) by-counts);
         },
         record {
@@ -71,29 +80,31 @@ module _ (s : Simulation) (f : FitState s) where
         leb-true (senderAt s i .«packets_sent») 16777216
         (both-l (leb (senderAt s i .«packets_sent») 16777216) (ackFit (senderAt s i .state)) (at (λ j. leb (senderAt s j .«packets_sent») 16777216 && ackFit (senderAt s j .state)) (f .counts)))
 
-    pub records-few : meterAt s i .records + countOf i (waitingItems s) + countOf i (onLinePackets s) ≤ 16777216
+    pub records-few : meterAt s i .records + countOf i (waitingPackets s) + countOf i (onLinePackets s) ≤ 16777216
     unfolding recordsFit
     records-few =
-        let within : meterAt s i .records + countOf i (waitingItems s) + countOf i (onLinePackets s) ≤ senderAt s i .«packets_sent» =
-        leb-true _ (senderAt s i .«packets_sent») (at (λ j. leb (meterAt s j .records + countOf j (waitingItems s) + countOf j (onLinePackets s)) (senderAt s j .«packets_sent»)) (f .records)) in
+        let within : meterAt s i .records + countOf i (waitingPackets s) + countOf i (onLinePackets s) ≤ senderAt s i .«packets_sent» =
+        leb-true _ (senderAt s i .«packets_sent») (at (λ j. leb (meterAt s j .records + countOf j (waitingPackets s) + countOf j (onLinePackets s)) (senderAt s j .«packets_sent»)) (f .records)) in
         omega (arith, within, sent-few)
 
     starts-past : (t : Time) → meterAt s i .«current_start» ≡ Some t → inRange zeroF (s .head .clock .0 .0) (t .0 .0) ≡ true
     unfolding pastFit
     starts-past t e =
-        let waiting = every (λ p. sinceStart s (p .«sent_time»)) (waitingItems s) in
+        let waiting = every (λ p. sinceStart s (p .«sent_time»)) (waitingPackets s) in
         let moving = every (λ p. sinceStart s (p .«sent_time»)) (onLinePackets s) in
         let senders = eachSender s (λ j. startedFit s (senderAt s j .state)) in
         let meters = eachSender s (λ j. meterStartFit s (meterAt s j .«current_start»)) in
         subst (λ (o : OptionTime). meterStartFit s o ≡ true) e (at (λ j. meterStartFit s (meterAt s j .«current_start»)) (both-r (waiting && moving && senders) meters (f .past)))
 
-    pub meter-facts : lt (power 40) (s .head .clock .0 .0) ≡ false → MeterFacts (meterAt s i) (s .head .clock) (s .network .bits)
+    pub meter-facts : lt (power 40) (s .head .clock .0 .0) ≡ false → MeterFacts (meterAt s i) (s .head .clock) (senderBits (s .network) i .0)
     unfolding totalsFit sumsFit meterBitsFit
     meter-facts e =
         record {
           few = omega (arith, records-few);
-          bits = eqb-true (meterAt s i .total .0) (meterAt s i .records * s .network .bits) (at (λ j. eqb (meterAt s j .total .0) (meterAt s j .records * s .network .bits)) (f .meter-bits));
-          small = few-bits accepted;
+          bits =
+              eqb-true (meterAt s i .total .0) (meterAt s i .records * senderBits (s .network) i .0)
+              (at (λ j. eqb (meterAt s j .total .0) (meterAt s j .records * senderBits (s .network) j .0)) (f .meter-bits));
+          small = few-bits accepted i h;
           start = starts-past;
           total = at (λ j. totalFit (meterAt s j .«total_time»)) (f .totals);
           sum = at (λ j. sumFit (meterAt s j .records) (meterAt s j .«rtt_sum»)) (f .sums);
@@ -102,17 +113,30 @@ module _ (s : Simulation) (f : FitState s) where
         }
 
   -- a packet that passes the test names a sender
-  names-sender : (p : Packet) → packetFit s p ≡ true → p .sender < s .network .senders
+  pub names-sender : (p : Packet) → packetFit s p ≡ true → p .sender < s .network .senders
   names-sender p e =
       ltb-true (p .sender) (s .network .senders) (both-l (ltb (p .sender) (s .network .senders)) (between 1 (senderAt s (p .sender) .«packets_sent») (p .seq)) e)
 
   -- ---- the first packet that waits
-  pub first-sender : Sound (s .waiting) (s .line .waiting) → 0 < s .line .waiting .count → firstOf s .sender < s .network .senders
-  unfolding packetsFit
-  first-sender sound some =
-      names-sender (firstOf s)
-      (every-first (packetFit s) (firstOf s) (items noPacket (s .waiting) (popped (s .line .waiting)))
-      (ap (every (packetFit s)) (sym (items-pop sound noPacket some)) ∙ both-l (every (packetFit s) (waitingItems s)) (every (packetFit s) (onLinePackets s)) (f .packets)))
+  module _ (some : 0 < s .line .waiting .count) where
+    then : waitingItems s ≡ firstOf s ∷ items noWaiting (s .waiting) (popped (s .line .waiting))
+    then = items-first noWaiting (s .waiting) (s .line .waiting) waits-start some
+
+    pub first-sender : firstOf s .packet .sender < s .network .senders
+    unfolding packetsFit
+    first-sender =
+        names-sender (firstOf s .packet)
+        (every-first (packetFit s) (firstOf s .packet) (map (λ x. x .packet) (items noWaiting (s .waiting) (popped (s .line .waiting))))
+        (ap (λ l. every (packetFit s) (map (λ x. x .packet) l)) (sym then) ∙ both-l (every (packetFit s) (waitingPackets s)) (every (packetFit s) (onLinePackets s)) (f .packets)))
+
+    -- it carries its sender's bits, so the time that it takes to start is small
+    pub first-within : within (amountOverRate (firstOf s .bits) (rateOf (s .network .rate)) .0) (power 40)
+    unfolding carriedFit
+    first-within =
+        let own : firstOf s .bits .0 ≡ packetBits (s .network) (firstOf s .packet) .0 =
+        eqb-true (firstOf s .bits .0) (packetBits (s .network) (firstOf s .packet) .0)
+        (every-first (carries s) (firstOf s) (items noWaiting (s .waiting) (popped (s .line .waiting))) (ap (every (carries s)) (sym then) ∙ f .carried)) in
+        subst (λ (b : ℕ). within (amountOverRate (amountOf b) (rateOf (s .network .rate)) .0) (power 40)) (sym own) (sending-within accepted (firstOf s .packet .sender) first-sender)
 
   -- ---- the first packet on the line
   module _ (sound : Sound (s .«on_line») (s .line .«on_line»)) (some : 0 < s .line .«on_line» .count) where
@@ -126,12 +150,12 @@ module _ (s : Simulation) (f : FitState s) where
 
     pub front-sender : frontOf s .packet .sender < s .network .senders
     unfolding packetsFit
-    front-sender = names-sender (frontOf s .packet) (first (packetFit s) (both-r (every (packetFit s) (waitingItems s)) (every (packetFit s) (onLinePackets s)) (f .packets)))
+    front-sender = names-sender (frontOf s .packet) (first (packetFit s) (both-r (every (packetFit s) (waitingPackets s)) (every (packetFit s) (onLinePackets s)) (f .packets)))
 
     pub front-past : inRange zeroF (s .head .clock .0 .0) (frontOf s .packet .«sent_time» .0 .0) ≡ true
     unfolding pastFit
     front-past =
-        let waiting = every (λ p. sinceStart s (p .«sent_time»)) (waitingItems s) in
+        let waiting = every (λ p. sinceStart s (p .«sent_time»)) (waitingPackets s) in
         let moving = every (λ p. sinceStart s (p .«sent_time»)) (onLinePackets s) in
         let senders = eachSender s (λ j. startedFit s (senderAt s j .state)) in
         let meters = eachSender s (λ j. meterStartFit s (meterAt s j .«current_start»)) in

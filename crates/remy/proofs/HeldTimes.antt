@@ -17,6 +17,7 @@ use Rattle.quantities.specs.Units.{spanOf, rateOf, timeOf, latestOf, earliestOp
 use Rattle.rand.specs.Draws.{unitOf}
 use Rattle.meters.specs.declared.meter.AverageFlowMeter.{AverageFlowMeter}
 use Rattle.link.specs.declared.packet.Packet.{Packet}
+use Rattle.link.specs.declared.packet.Waiting.{Waiting}
 use Rattle.link.specs.declared.packet.Transit.{Transit}
 use Rattle.link.specs.declared.link.Line.{Line}
 use Rattle.link.specs.declared.link.Arrival.{Arrival}
@@ -57,12 +58,11 @@ use Rattle.remy.specs.declared.simulation.Name.the-variants as Name
 use Rattle.remy.specs.declared.simulation.TickRecord.{TickRecord}
 use Rattle.remy.specs.State.{Role, link, sender, toggler, nobody, roleOf, noTransit, noSender, noToggler, senderAt, togglerAt, queuedAt, firstOf, frontOf, onLineItems, packetBits, withLine, withWaiting, withOnLine, withSender, withToggler, withMeter, withHead, withQueue}
 use Rattle.remy.specs.Queue.{endOfTime, ownTime, partOf, requeue, headOf, removed, picked}
-use Rattle.remy.specs.Tick.{named, arrives, Acted, leftRecord, leftMessages, linkWith, linkActs, enabledSender, timerWith, sendWith, senderWith, senderActs, togglerWith, togglerActs, actsOf, Outcome, moves, stops, arriveWith, heardMeter, switchedSender, deliver, deliverAll, pickAgain, outcomeWith, outcomeOf, unmoved, ticked, tickNext, tickOf}
+use Rattle.remy.specs.Tick.{named, arrives, Acted, leftRecord, leftMessages, linkWith, linkActs, enabledSender, timerWith, sendWith, senderWith, senderActs, togglerWith, togglerActs, actsOf, Outcome, moves, stops, waitsWith, arriveWith, heardMeter, switchedSender, deliver, deliverAll, pickAgain, outcomeWith, outcomeOf, unmoved, ticked, tickNext, tickOf}
 use Rattle.remy.specs.NewTimes.{startTimes, gapTimes, firstTimes, senderTimes, partTimes, timesNext, newTimes}
 use Rattle.remy.proofs.Lists.{All, all-first, all-append, all-mapped, all-unmapped, all-member, member-all}
 use Rattle.remy.proofs.Facts.{FitState, fit-state}
-use Rattle.remy.proofs.Networks.{FitNetwork}
-use Rattle.remy.proofs.Front.{accepted, rings, front-sender}
+use Rattle.remy.proofs.Front.{rings, front-sender}
 use Rattle.remy.proofs.Kept.{at-index, at-set}
 use Rattle.remy.proofs.Full.{full-queue}
 use Rattle.remy.proofs.Outcomes.{OnMoves, on-stopped}
@@ -199,7 +199,7 @@ module _ {k : Kinds} {c : Time} (closed : Closed k c) {n : ℕ} where
         }
 
     -- another line, and as many places
-    with-line : (l : Line) (waiting : List Packet) (moving : List Transit) → length waiting ≡ places → Sound moving (l .«on_line») → k .free (l .«earliest_transmit»)
+    with-line : (l : Line) (waiting : List Waiting) (moving : List Transit) → length waiting ≡ places → Sound moving (l .«on_line») → k .free (l .«earliest_transmit»)
         → All (λ x. k .due (x .due)) (items noTransit moving (l .«on_line»)) → Mid k c n (withLine (withOnLine (withWaiting m waiting) moving) l)
     with-line l waiting moving w ring free due =
         record {
@@ -320,14 +320,14 @@ module _ {k : Kinds} {c : Time} (closed : Closed k c) {n : ℕ} where
     starts : (left : Left) (l : Line) → LeftOwn n left → Mid k c n (withLine s l) → All (Every k) (startTimes s l)
         → OnMoves (By k c)
         (outcomeWith link
-        (linkWith s (record { left = left; line = l }) (tryTransmit l (s .head .clock) (firstOf s) (spanOf (s .network .delay)) (rateOf (s .network .rate)) (packetBits (s .network) (firstOf s)))))
+        (linkWith s (record { left = left; line = l }) (tryTransmit l (s .head .clock) (firstOf s) (spanOf (s .network .delay)) (rateOf (s .network .rate)))))
     unfolding tryTransmit
     starts left l own d new =
         let now = s .head .clock in
-        let size = packetBits (s .network) (firstOf s) in
+        let size = firstOf s .bits in
         let due = dueTime now (spanOf (s .network .delay)) in
         let free = nextStart now size (rateOf (s .network .rate)) in
-        let x : Transit = record { packet = firstOf s; due = due } in
+        let x : Transit = record { packet = firstOf s .packet; due = due } in
         let go : Transmitted = record { number = 0; begun = Begun.Starts x; line = startedLine l size free } in
         let F : Transmitted → Type 0 = λ t. OnMoves (By k c) (outcomeWith link (linkWith s (record { left = left; line = l }) t)) in
         cond-elim F (isFree l now) (cond (leb places (l .«on_line» .count)) (notStarted l 13) go) (notStarted l 0)
@@ -337,7 +337,7 @@ module _ {k : Kinds} {c : Time} (closed : Closed k c) {n : ℕ} where
         let fresh : Every k free × (Every k due × Unit {0}) = rw (e, room) at new in
         let few = leb-false places (l .«on_line» .count) room in
         let moving = set (s .«on_line») (placeAfter (l .«on_line»)) x in
-        link-ends left (named (firstOf s))
+        link-ends left (named (firstOf s .packet))
         (with-line d (startedLine l size free) (s .waiting) moving (d .full .waiting) (push-sound (d .ring) x few) (fresh .0 .free)
         (subst (All (λ y. k .due (y .due))) (sym (items-push (d .ring) noTransit x few))
         (all-append (λ y. k .due (y .due)) (items noTransit (s .«on_line») (l .«on_line»)) (x ∷ []) (d .due) (fresh .1 .0 .due, tt)))) own))
@@ -350,7 +350,7 @@ module _ {k : Kinds} {c : Time} (closed : Closed k c) {n : ℕ} where
         let lost : Delivered = record { left = Left.Lost p; line = departed (s .line) } in
         let out : Delivered = record { left = Left.Out p; line = departed (s .line) } in
         let G : Delivered → Type 0 = λ x. All (Every k) (startTimes s (x .line)) → OnMoves (By k c)
-        (outcomeWith link (linkWith s x (tryTransmit (x .line) (s .head .clock) (firstOf s) (spanOf (s .network .delay)) (rateOf (s .network .rate)) (packetBits (s .network) (firstOf s))))) in
+        (outcomeWith link (linkWith s x (tryTransmit (x .line) (s .head .clock) (firstOf s) (spanOf (s .network .delay)) (rateOf (s .network .rate))))) in
         cond-elim G (isDue (s .line) (s .head .clock) (frontOf s)) (cond (lt (unitOf (s .line .rng) .value) (s .network .loss)) lost out) (record { left = Left.Nobody; line = s .line })
         (λ e.
         let some : 0 < s .line .«on_line» .count = due-count (s .line) (s .head .clock) (frontOf s) e in
@@ -388,8 +388,8 @@ module _ {k : Kinds} {c : Time} (closed : Closed k c) {n : ℕ} where
           (λ fits. cond-elim F (leb places (st .line .waiting .count)) full taken (λ none. tt)
           (λ room. (
             now,
-            lands (requeued (with-line b (admitted (st .line) (packetBits (st .network) p)) (set (st .waiting) (placeAfter (st .line .waiting)) p) (st .«on_line»)
-                (length-set (st .waiting) (placeAfter (st .line .waiting)) p ∙ b .full .waiting) (b .ring) (b .free) (b .due)) link tt),
+            lands (requeued (with-line b (admitted (st .line) (packetBits (st .network) p)) (set (st .waiting) (placeAfter (st .line .waiting)) (waitsWith st p)) (st .«on_line»)
+                (length-set (st .waiting) (placeAfter (st .line .waiting)) (waitsWith st p) ∙ b .full .waiting) (b .ring) (b .free) (b .due)) link tt),
           )))
           (λ over. (now, lands (requeued b link tt)))
 
@@ -481,11 +481,11 @@ tick-held F s full rests goes =
 
 -- Every tick keeps claims that do not read the clock, where a part's new times have them.
 pub tick-has : (k : Kinds) → ((c : Time) → k .queued c → Closed k c)
-    → ((s : Simulation) → k .queued (s .head .clock) → FitNetwork (s .network) → (role : Role) → All (Every k) (partTimes s role))
+    → ((s : Simulation) → k .queued (s .head .clock) → FitState s → (role : Role) → All (Every k) (partTimes s role))
     → (s : Simulation) → Has k s → Has k (tickOf s .simulation)
 tick-has k closed new s y =
     tick-held (λ t ts. Has k (t .simulation)) s (y .full) (λ number ts. y)
-    (λ f early j next role. (k, (closed (s .head .clock) (y .clock), y .held, new s (y .clock) (accepted s f) role, λ r m now h. h)))
+    (λ f early j next role. (k, (closed (s .head .clock) (y .clock), y .held, new s (y .clock) f role, λ r m now h. h)))
 
 -- ---- a build: each part queued at its own next time, and the first pick
 

@@ -21,7 +21,7 @@ use Rattle.remy.specs.declared.network.RemyNetwork.{RemyNetwork}
 use Rattle.remy.specs.declared.simulation.Head.{Head}
 use Rattle.remy.specs.declared.simulation.Simulation.{Simulation}
 use Rattle.remy.specs.Network.{between}
-use Rattle.remy.specs.State.{noSender, noMeter, senderAt, meterAt, senderBits, packetBits, withHead, withTogglers, withQueue, withSender, withMeter}
+use Rattle.remy.specs.State.{noSender, noMeter, senderAt, meterAt, senderBits, withHead, withTogglers, withQueue, withSender, withMeter}
 use Rattle.remy.specs.History.{PacketId, Entry, ids}
 use Rattle.remy.specs.Account.{total, ofSender, isPacket}
 use Rattle.remy.proofs.Lists.{map-append, total-append}
@@ -71,7 +71,7 @@ pub record Kept (n : RemyNetwork) (admitted started left sent : List Entry) (cou
   pub network : s .network ≡ n
   pub senders-full : length (s .senders) ≡ 16
   pub meters-full : length (s .meters) ≡ 16
-  pub line : LineKept (spanOf (n .delay)) (λ x. amountOverRate (senderBits n (x .sender)) (rateOf (n .rate))) (n .limit) (λ p. packetBits n p .0) admitted started left
+  pub line : LineKept (spanOf (n .delay)) (λ x. amountOverRate (senderBits n (x .sender)) (rateOf (n .rate))) (n .limit) (λ x. senderBits n (x .sender) .0) admitted started left
       (s .waiting) (s .line .waiting) (s .«on_line») (s .line .«on_line») (s .line .«earliest_transmit») (s .line .«buffer_contains» .0)
   pub sends : (i : ℕ) → senderAt s i .«packets_sent» ≡ total (ofSender i) (ids sent)
   pub once : (i m : ℕ) → total (isPacket i m) (ids sent) ≡ wasSent n i (senderAt s i .«packets_sent») m

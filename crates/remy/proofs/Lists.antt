@@ -8,7 +8,7 @@ use native.Mathlib.Nat.{zero-add, add-assoc}
 use native.Mathlib.Omega.{arith}
 use lib.ListN.{length, getD, take}
 use Rattle.quantities.specs.declared.time.Time.{Time}
-use Rattle.link.specs.declared.packet.Packet.{Packet}
+use Rattle.link.specs.declared.packet.Waiting.{Waiting}
 use Rattle.link.specs.declared.ring.Ring.{Ring}
 use Rattle.link.specs.Ring.{places, itemsFrom, items}
 use Rattle.remy.specs.declared.simulation.Mark.{Mark}
@@ -76,9 +76,9 @@ module _ (f : PacketId → ℕ) where
 
 -- ---- sums of bits
 
-pub bits-append : (size : Packet → ℕ) (xs ys : List Packet) → totalBits size (xs ++ ys) ≡ totalBits size xs + totalBits size ys
-bits-append size [] ys = sym (zero-add (totalBits size ys))
-bits-append size (x ∷ xs) ys = ap (λ n. size x + n) (bits-append size xs ys) ∙ sym (add-assoc (size x) (totalBits size xs) (totalBits size ys))
+pub bits-append : (xs ys : List Waiting) → totalBits (xs ++ ys) ≡ totalBits xs + totalBits ys
+bits-append [] ys = sym (zero-add (totalBits ys))
+bits-append (x ∷ xs) ys = ap (λ n. x .bits .0 + n) (bits-append xs ys) ∙ sym (add-assoc (x .bits .0) (totalBits xs) (totalBits ys))
 
 -- ---- facts of every member
 

@@ -76,7 +76,7 @@ module _ (n : RemyNetwork) where
 -- ---- a turn
 
 -- a packet that is sent is its sender's
-sent-own : (sent : ℕ) (s : Simulation) (e : Enabled) (i : ℕ) → tickSend sent (s .network .policy) e (s .head .clock) i .packet .sender ≡ i
+pub sent-own : (sent : ℕ) (s : Simulation) (e : Enabled) (i : ℕ) → tickSend sent (s .network .policy) e (s .head .clock) i .packet .sender ≡ i
 unfolding tickSend
 sent-own sent s e i =
     cond-elim (λ (t : Sent). t .packet .sender ≡ i) (leb 16777216 sent) _ (sentWith sent (s .network .policy) e (s .head .clock) i) (λ spent. refl) (λ room. refl)
@@ -157,7 +157,7 @@ module _ (s : Simulation) where
 
 -- what starts, on a line l
 abbrev transmitted : Simulation → Line → Transmitted
-transmitted s l = tryTransmit l (s .head .clock) (firstOf s) (spanOf (s .network .delay)) (rateOf (s .network .rate)) (packetBits (s .network) (firstOf s))
+transmitted s l = tryTransmit l (s .head .clock) (firstOf s) (spanOf (s .network .delay)) (rateOf (s .network .rate))
 
 module _ {adm sts lvs snd : List Entry} {cnt : List PacketId} {s : Simulation} (f : FitState s) (k : Kept (s .network) adm sts lvs snd cnt s) where
   -- a packet that starts is of a sender of the network
@@ -168,7 +168,7 @@ module _ {adm sts lvs snd : List Entry} {cnt : List PacketId} {s : Simulation} (
       cond-elim F (isFree l (s .head .clock)) _ (notStarted l 0)
       (λ e. cond-elim F (leb places (l .«on_line» .count)) (notStarted l 13) _
       (λ full. inl refl)
-      (λ room. inr (packet-named (s .network) (firstOf s) (first-sender s f (k .line .queue) (subst (λ w. 0 < w .count) same (free-count l (s .head .clock) e))), refl)))
+      (λ room. inr (packet-named (s .network) (firstOf s .packet) (first-sender s f (subst (λ w. 0 < w .count) same (free-count l (s .head .clock) e))), refl)))
       (λ e. inl refl)
 
   link-turn : OnMoves (Good s) (outcomeOf s link)

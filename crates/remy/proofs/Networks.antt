@@ -1,21 +1,23 @@
 -- What an accepted network has: each range by name. Assumes nothing.
 use mathlib.Core.Path.{_≡_, refl}
 use mathlib.Core.Bool.{Bool, true, false, _&&_, cond}
-use Prim.Native.Nat.{ℕ, suc, _≤_}
+use Prim.Native.Nat.{ℕ, suc, _≤_, _<_}
 use native.Mathlib.Omega.{arith}
 use borrow.Author.Tests.{leb-true}
 use lib.Dec.{leb}
+use lib.ListN.{getD}
 use lib.IntN.{negsuc}
 use lib.Ieee.{Float, fin, le}
 use Rattle.quantities.specs.Doubles.{zeroF, power}
-use Rattle.quantities.specs.Units.{amountOf, rateOf, amountOverRate}
+use Rattle.quantities.specs.Units.{rateOf, amountOverRate}
 use Rattle.quantities.proofs.Order.{le-trans}
 use Rattle.quantities.proofs.Ranges.{within, within-wider, test→within}
 use Rattle.link.proofs.NewTimes as Link
 use Rattle.sender.specs.declared.lossy.Policy.the-variants.{Timed}
 use Rattle.remy.specs.declared.network.RemyNetwork.{RemyNetwork}
-use Rattle.remy.specs.Network.{between, windowFit, gapFit, delayFit, rateFit, lossFit, limitFit, sizesFit, timesFit, policyFit, networkStop}
-use Rattle.remy.proofs.Facts.{both-l, both-r, range-low, range-high, between-low, between-high}
+use Rattle.remy.specs.Network.{upTo, between, windowFit, gapFit, delayFit, rateFit, lossFit, limitFit, sizesFit, timesFit, policyFit, networkStop}
+use Rattle.remy.specs.State.{senderBits}
+use Rattle.remy.proofs.Facts.{both-l, both-r, range-low, range-high, between-low, between-high, upTo-at}
 
 pub record FitNetwork (n : RemyNetwork) : Type 0 where
   pub delay : delayFit (n .delay) ≡ true
@@ -60,24 +62,27 @@ far x w = within-wider x (power 20) (power 40) w (unfold le in tt)
 
 module _ {n : RemyNetwork} (f : FitNetwork n) where
   pub few-senders : n .senders ≤ 16
-  few-senders = leb-true (n .senders) 16 (both-r (between 1 16777216 (n .bits)) (leb (n .senders) 16) (f .sizes))
+  few-senders = leb-true (n .senders) 16 (both-l (leb (n .senders) 16) (upTo (n .senders) (λ i. between 1 16777216 (getD (n .bits) i 0))) (f .sizes))
 
-  bits-between : between 1 16777216 (n .bits) ≡ true
-  bits-between = both-l (between 1 16777216 (n .bits)) (leb (n .senders) 16) (f .sizes)
+  module _ (i : ℕ) (h : i < n .senders) where
+    bits-between : between 1 16777216 (senderBits n i .0) ≡ true
+    bits-between =
+        let each : ℕ → Bool = λ j. between 1 16777216 (getD (n .bits) j 0) in
+        upTo-at (n .senders) each (both-r (leb (n .senders) 16) (upTo (n .senders) each) (f .sizes)) i h
 
-  pub some-bits : 1 ≤ n .bits
-  some-bits = between-low 1 16777216 (n .bits) bits-between
+    pub some-bits : 1 ≤ senderBits n i .0
+    some-bits = between-low 1 16777216 (senderBits n i .0) bits-between
 
-  pub few-bits : n .bits ≤ 16777216
-  few-bits = between-high 1 16777216 (n .bits) bits-between
+    pub few-bits : senderBits n i .0 ≤ 16777216
+    few-bits = between-high 1 16777216 (senderBits n i .0) bits-between
 
   -- ---- the spans that a tick adds to the clock
   pub delay-within : within (n .delay) (power 40)
   delay-within = far (n .delay) (test→within (power 20) (n .delay) (f .delay))
 
-  pub sending-within : within (amountOverRate (amountOf (n .bits)) (rateOf (n .rate)) .0) (power 40)
-  sending-within =
-      Link.start-within (amountOf (n .bits)) (rateOf (n .rate)) some-bits few-bits (range-low (power 0) (power 50) (n .rate) (f .rate)) (range-high (power 0) (power 50) (n .rate) (f .rate))
+  pub sending-within : (i : ℕ) → i < n .senders → within (amountOverRate (senderBits n i) (rateOf (n .rate)) .0) (power 40)
+  sending-within i h =
+      Link.start-within (senderBits n i) (rateOf (n .rate)) (some-bits i h) (few-bits i h) (range-low (power 0) (power 50) (n .rate) (f .rate)) (range-high (power 0) (power 50) (n .rate) (f .rate))
 
 pub gap-within : (most : ℕ) (gap : Float) → policyFit (Timed most gap) ≡ true → within gap (power 40)
 gap-within most gap f =

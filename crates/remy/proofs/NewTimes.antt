@@ -1,57 +1,75 @@
 -- Each new time that a tick works out is finite and not below the clock, where the clock is a double: a clock that 10 lets pass, with a span that the network's ranges
 -- allow. Assumes nothing.
-use mathlib.Core.Path.{_≡_}
-use mathlib.Core.Bool.{true, not, cond}
+use mathlib.Core.Path.{_≡_, refl, subst}
+use mathlib.Core.Bool.{true, false, not, cond}
 use mathlib.Core.List.{List, []}
-use Prim.Native.Nat.{ℕ}
+use Prim.Native.Nat.{ℕ, _<_}
 use lib.Dec.{leb, eqb}
 use lib.Ieee.{Float, lt}
 use Rattle.quantities.specs.declared.time.Time.{Time}
 use Rattle.quantities.specs.declared.time.OptionTime.{OptionTime}
 use Rattle.quantities.specs.declared.time.OptionTime.the-variants.{None, Some}
 use Rattle.quantities.specs.Doubles.{power}
-use Rattle.quantities.specs.Units.{spanOf, rateOf, amountOf, amountOverRate}
+use Rattle.quantities.specs.Units.{spanOf, rateOf, amountOverRate}
 use Rattle.quantities.specs.NewTime.{FineTime, Double}
 use Rattle.quantities.proofs.Ranges.{within}
 use Rattle.rand.specs.declared.distribution.ContinuousDistribution.{ContinuousDistribution}
+use Rattle.rand.specs.Draws.{unitOf}
 use Rattle.link.specs.declared.link.Line.{Line}
+use Rattle.link.specs.declared.link.Delivered.{Delivered}
 use Rattle.sender.specs.declared.lossy.Policy.{Policy}
 use Rattle.sender.specs.declared.lossy.Policy.the-variants.{Held, Grown, Timed}
 use Rattle.sender.specs.declared.lossy.SenderState.{SenderState}
 use Rattle.sender.specs.declared.lossy.SenderState.the-variants as State
 use Rattle.link.specs.Ring.{places}
-use Rattle.link.specs.Link.{isFree, nextStart, dueTime}
+use Rattle.link.specs.Link.{departed, isDue, tryDeliver, isFree, nextStart, dueTime}
 use Rattle.sender.specs.Sender.{timerDue, timerIn}
 use Rattle.toggler.specs.Toggler.{nextToggle, toggleDraw}
 use Rattle.link.proofs.NewTimes.{next-start-fine, due-time-fine}
+use Rattle.link.proofs.Limits.{free-count}
 use Rattle.sender.proofs.NewTimes.{timer-in-fine}
 use Rattle.toggler.proofs.NewTimes.{next-toggle-fine}
 use Rattle.remy.specs.declared.simulation.Next.{Next}
 use Rattle.remy.specs.declared.simulation.Next.the-variants as Next
 use Rattle.remy.specs.declared.simulation.Simulation.{Simulation}
 use Rattle.remy.specs.Network.{timesFit, policyFit}
-use Rattle.remy.specs.State.{Role, link, sender, toggler, nobody, roleOf, senderAt, togglerAt}
+use Rattle.remy.specs.State.{Role, link, sender, toggler, nobody, roleOf, senderAt, togglerAt, firstOf, frontOf}
 use Rattle.remy.specs.Fit.{fit}
-use Rattle.remy.specs.NewTimes.{startTimes, gapTimes, firstTimes, senderTimes, togglerTimes, partTimes, timesNext, newTimes, NewTimesFine}
-use Rattle.remy.proofs.Facts.{both-l, both-r, fit-state}
-use Rattle.remy.proofs.Networks.{FitNetwork, far, delay-within, sending-within, gap-within}
-use Rattle.remy.proofs.Front.{accepted, from-zero, clock-bounded}
+use Rattle.remy.specs.NewTimes.{startTimes, linkTimes, gapTimes, firstTimes, senderTimes, togglerTimes, partTimes, timesNext, newTimes, NewTimesFine}
+use Rattle.remy.proofs.Facts.{both-l, both-r, FitState, fit-state}
+use Rattle.remy.proofs.Networks.{FitNetwork, far, delay-within, gap-within}
+use Rattle.remy.proofs.Front.{accepted, from-zero, clock-bounded, first-within}
 use Rattle.remy.proofs.Lists.{All, all-member}
 use Rattle.remy.proofs.Fresh.{redraw-within}
 use Rattle.remy.proofs.Steps.{cond-elim}
 
 -- ---- the new times of a part of an accepted network
 
-module _ (s : Simulation) (n : FitNetwork (s .network)) (P : Time → Type 0)
-    (start : within (amountOverRate (amountOf (s .network .bits)) (rateOf (s .network .rate)) .0) (power 40) → P (nextStart (s .head .clock) (amountOf (s .network .bits)) (rateOf (s .network .rate))))
+module _ (s : Simulation) (f : FitState s) (P : Time → Type 0)
+    (start : within (amountOverRate (firstOf s .bits) (rateOf (s .network .rate)) .0) (power 40) → P (nextStart (s .head .clock) (firstOf s .bits) (rateOf (s .network .rate))))
     (due : within (s .network .delay) (power 40) → P (dueTime (s .head .clock) (spanOf (s .network .delay))))
     (timer : (gap : Float) → within gap (power 40) → P (timerIn (s .head .clock) gap))
     (toggle : (draw : Float) → within draw (power 40) → P (nextToggle (s .head .clock) draw)) where
-  start-has : (l : Line) → All P (startTimes s l)
-  start-has l =
+  n : FitNetwork (s .network)
+  n = accepted s f
+
+  -- on a line with the packets that wait
+  start-has : (l : Line) → l .waiting ≡ s .line .waiting → All P (startTimes s l)
+  start-has l same =
       cond-elim (All P) (isFree l (s .head .clock)) _ []
-      (λ e. cond-elim (All P) (leb places (l .«on_line» .count)) [] _ (λ full. tt) (λ room. (start (sending-within n), (due (delay-within n), tt))))
+      (λ e.
+      let some : 0 < s .line .waiting .count = subst (λ w. 0 < w .count) same (free-count l (s .head .clock) e) in
+      cond-elim (All P) (leb places (l .«on_line» .count)) [] _ (λ full. tt) (λ room. (start (first-within s f some), (due (delay-within n), tt))))
       (λ e. tt)
+
+  -- a packet that leaves does not change what waits
+  link-has : All P (linkTimes s)
+  unfolding tryDeliver
+  link-has =
+      let G : Delivered → Type 0 = λ d. All P (startTimes s (d .line)) in
+      cond-elim G (isDue (s .line) (s .head .clock) (frontOf s)) _ _
+      (λ e. cond-elim G (lt (unitOf (s .line .rng) .value) (s .network .loss)) _ _ (λ lost. start-has (departed (s .line)) refl) (λ out. start-has (departed (s .line)) refl))
+      (λ e. start-has (s .line) refl)
 
   gap-has : (policy : Policy) → policyFit policy ≡ true → All P (gapTimes policy (s .head .clock))
   gap-has (Held w) f = tt
@@ -81,7 +99,7 @@ module _ (s : Simulation) (n : FitNetwork (s .network)) (P : Time → Type 0)
       cond-elim (All P) (eqb (d .number) 0) _ [] (λ drawn. (toggle (d .value) (far (d .value) (redraw-within 8 law fine (t .rng))), tt)) (λ spent. tt)
 
   pub part-has : (role : Role) → All P (partTimes s role)
-  part-has link = start-has _
+  part-has link = link-has
   part-has (sender i) = sender-has i (senderAt s i .state)
   part-has (toggler i) = toggler-has i
   part-has nobody = tt
@@ -91,10 +109,11 @@ module _ (s : Simulation) (n : FitNetwork (s .network)) (P : Time → Type 0)
 abbrev pub Fine : Simulation → List Time → Type 0
 Fine s ts = All (FineTime (s .head .clock)) ts
 
-pub part-fine : (s : Simulation) → Double (s .head .clock) → within (s .head .clock .0 .0) (power 40) → FitNetwork (s .network) → (role : Role) → Fine s (partTimes s role)
-part-fine s double c n =
+pub part-fine : (s : Simulation) → Double (s .head .clock) → FitState s → lt (power 40) (s .head .clock .0 .0) ≡ false → (role : Role) → Fine s (partTimes s role)
+part-fine s double f early =
     let clock = s .head .clock in
-    part-has s n (FineTime clock) (next-start-fine clock c double (amountOf (s .network .bits)) (rateOf (s .network .rate))) (due-time-fine clock c double (spanOf (s .network .delay)))
+    let c : within (clock .0 .0) (power 40) = (from-zero s f, clock-bounded s f early) in
+    part-has s f (FineTime clock) (next-start-fine clock c double (firstOf s .bits) (rateOf (s .network .rate))) (due-time-fine clock c double (spanOf (s .network .delay)))
     (timer-in-fine clock c double) (next-toggle-fine clock c double)
 
 -- ---- every state
@@ -109,4 +128,4 @@ new-times-fine s double =
     with-next e (Next.Part k) =
         let f = fit-state s e in
         cond-elim (Fine s) (lt (power 40) (s .head .clock .0 .0)) [] _ (λ late. tt)
-        (λ early. part-fine s double (from-zero s f, clock-bounded s f early) (accepted s f) (roleOf (s .network .senders) k))
+        (λ early. part-fine s double f early (roleOf (s .network .senders) k))

@@ -45,7 +45,7 @@ use Rattle.remy.proofs.Steps.{cond-elim}
 or-stopped : (s : Simulation) (k : ℕ) (a : Acted) → a .number ≡ 0 → TickNumber k → TickNumber (cond (eqb k 0) a (stopped s k) .number)
 or-stopped s k a z p = cond-elim (λ (x : Acted). TickNumber (x .number)) (eqb k 0) a (stopped s k) (λ e. inl z) (λ e. p)
 
-transmits : (s : Simulation) (l : Line) → TickNumber (tryTransmit l (s .head .clock) (firstOf s) (spanOf (s .network .delay)) (rateOf (s .network .rate)) (packetBits (s .network) (firstOf s)) .number)
+transmits : (s : Simulation) (l : Line) → TickNumber (tryTransmit l (s .head .clock) (firstOf s) (spanOf (s .network .delay)) (rateOf (s .network .rate)) .number)
 unfolding tryTransmit
 transmits s l =
     let F : Transmitted → Type 0 = λ t. TickNumber (t .number) in

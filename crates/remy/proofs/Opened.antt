@@ -36,7 +36,7 @@ unfolding doubles Link.nextTransmit Link.nextDeliver Link.nextTick Sender.sender
 nextTimes = tt
 
 unfoldable pub fitting : Unit {0}
-unfolding nextTimes mixed fromSeed allZero replaced fromWords networkStop Fit.networkFit Fit.ringsFit Fit.packetsFit Fit.bitsFit Fit.clockFit Fit.heldTimesFit Fit.pastFit Fit.totalsFit Fit.sumsFit Fit.recordsFit Fit.dueFit Fit.countsFit Fit.windowsFit Fit.timersFit Fit.togglersAgree Fit.metersAgree Fit.meterBitsFit Fit.queueFit Fit.wordsFit Fit.fit
+unfolding nextTimes mixed fromSeed allZero replaced fromWords networkStop Fit.networkFit Fit.ringsFit Fit.packetsFit Fit.bitsFit Fit.clockFit Fit.heldTimesFit Fit.pastFit Fit.totalsFit Fit.sumsFit Fit.recordsFit Fit.dueFit Fit.countsFit Fit.windowsFit Fit.timersFit Fit.togglersAgree Fit.metersAgree Fit.meterBitsFit Fit.queueFit Fit.carriedFit Fit.wordsFit Fit.fit
 fitting = tt
 
 unfoldable pub link : Unit {0}

@@ -78,17 +78,17 @@ on-stopped P role s m e = rw e tt
 
 -- the first packet that waits, on the line, and the line then
 abbrev begins : Simulation → Transit
-begins s = record { packet = firstOf s; due = spanAfter (s .head .clock) (spanOf (s .network .delay)) }
+begins s = record { packet = firstOf s .packet; due = spanAfter (s .head .clock) (spanOf (s .network .delay)) }
 
 abbrev after-start : Simulation → Line
 after-start s =
-    startedLine (s .line) (packetBits (s .network) (firstOf s)) (spanAfter (s .head .clock) (amountOverRate (packetBits (s .network) (firstOf s)) (rateOf (s .network .rate))))
+    startedLine (s .line) (firstOf s .bits) (spanAfter (s .head .clock) (amountOverRate (firstOf s .bits) (rateOf (s .network .rate))))
 
 module _ {adm sts lvs snd : List Entry} {cnt : List PacketId} {s : Simulation} (k : Kept (s .network) adm sts lvs snd cnt s) where
   pub transmit-elim : (F : Transmitted → Type 0) → F (notStarted (s .line) 0) → ((m : ℕ) → eqb m 0 ≡ false → F (notStarted (s .line) m))
-      → (Kept (s .network) adm (sts ++ (entryAt (s .head .clock) (firstOf s) ∷ [])) lvs snd cnt (withLine (withOnLine s (set (s .«on_line») (placeAfter (s .line .«on_line»)) (begins s))) (after-start s))
+      → (Kept (s .network) adm (sts ++ (entryAt (s .head .clock) (firstOf s .packet) ∷ [])) lvs snd cnt (withLine (withOnLine s (set (s .«on_line») (placeAfter (s .line .«on_line»)) (begins s))) (after-start s))
       → F (record { number = 0; begun = Begun.Starts (begins s); line = after-start s }))
-      → F (tryTransmit (s .line) (s .head .clock) (firstOf s) (spanOf (s .network .delay)) (rateOf (s .network .rate)) (packetBits (s .network) (firstOf s)))
+      → F (tryTransmit (s .line) (s .head .clock) (firstOf s) (spanOf (s .network .delay)) (rateOf (s .network .rate)))
   unfolding tryTransmit
   transmit-elim F none stop go =
       let l = s .line in
@@ -168,7 +168,7 @@ module _ {adm sts lvs snd : List Entry} {cnt : List PacketId} {s : Simulation} (
   stays : OnMoves Good
       (outcomeWith link
       (linkWith s (record { left = Left.Nobody; line = s .line })
-      (tryTransmit (s .line) (s .head .clock) (firstOf s) (spanOf (s .network .delay)) (rateOf (s .network .rate)) (packetBits (s .network) (firstOf s)))))
+      (tryTransmit (s .line) (s .head .clock) (firstOf s) (spanOf (s .network .delay)) (rateOf (s .network .rate)))))
   stays =
       transmit-elim k (λ (t : Transmitted). OnMoves Good (outcomeWith link (linkWith s (record { left = Left.Nobody; line = s .line }) t)))
       (kept-lists (same adm) (same sts) (same lvs) (same snd) (same cnt) (keep-picked (keep-requeue k link)))
@@ -189,7 +189,7 @@ module _ {adm sts lvs snd : List Entry} {cnt : List PacketId} {s : Simulation} (
     loses : OnMoves Good
         (outcomeWith link
         (linkWith s (record { left = Left.Lost (frontOf s .packet); line = departed (s .line) })
-        (tryTransmit (departed (s .line)) (s .head .clock) (firstOf s) (spanOf (s .network .delay)) (rateOf (s .network .rate)) (packetBits (s .network) (firstOf s)))))
+        (tryTransmit (departed (s .line)) (s .head .clock) (firstOf s) (spanOf (s .network .delay)) (rateOf (s .network .rate)))))
     loses =
         transmit-elim gone (λ (t : Transmitted). OnMoves Good (outcomeWith link (linkWith s (record { left = Left.Lost (frontOf s .packet); line = departed (s .line) }) t)))
         (kept-lists (same adm) (same sts) refl (same snd) (same cnt) (keep-picked (keep-requeue gone link)))
@@ -204,7 +204,7 @@ module _ {adm sts lvs snd : List Entry} {cnt : List PacketId} {s : Simulation} (
         ≡ meterAt s (frontOf s .packet .sender) .records + 1
     more =
         ap (λ (x : Metered). x .meter .records)
-        (record-taken (meter-facts s f (frontOf s .packet .sender) own early) (frontOf s .packet .«sent_time») (front-room s f (k .line .transit) some) (some-bits ok) (clock .double)
+        (record-taken (meter-facts s f (frontOf s .packet .sender) own early) (frontOf s .packet .«sent_time») (front-room s f (k .line .transit) some) (some-bits ok (frontOf s .packet .sender) own) (clock .double)
         (front-past s f (k .line .transit) some))
 
     -- a record of a packet that left, from what was kept
@@ -218,7 +218,7 @@ module _ {adm sts lvs snd : List Entry} {cnt : List PacketId} {s : Simulation} (
     comes : OnMoves Good
         (outcomeWith link
         (linkWith s (record { left = Left.Out (frontOf s .packet); line = departed (s .line) })
-        (tryTransmit (departed (s .line)) (s .head .clock) (firstOf s) (spanOf (s .network .delay)) (rateOf (s .network .rate)) (packetBits (s .network) (firstOf s)))))
+        (tryTransmit (departed (s .line)) (s .head .clock) (firstOf s) (spanOf (s .network .delay)) (rateOf (s .network .rate)))))
     unfolding requeue
     comes =
         let p = frontOf s .packet in
@@ -233,20 +233,20 @@ module _ {adm sts lvs snd : List Entry} {cnt : List PacketId} {s : Simulation} (
         (λ q.
         let s1 = withLine s (departed (s .line)) in
         let st = requeue (withLine (withOnLine s1 (set (s1 .«on_line») (placeAfter (s1 .line .«on_line»)) (begins s1))) (after-start s1)) link in
-        let r = recordAt s link Mark.None (named p) (named (firstOf s)) in
+        let r = recordAt s link Mark.None (named p) (named (firstOf s .packet)) in
         on-picked Good keep-good (deliver r st (returns p))
-        (on-map (Back adm (sts ++ (entryAt (s .head .clock) (firstOf s) ∷ [])) gone-lists snd cnt s r p) Good
-        (λ a m. grown-back (sts ++ (entryAt (s .head .clock) (firstOf s) ∷ [])) r a m refl) (deliver r st (returns p))
-        (back adm (sts ++ (entryAt (s .head .clock) (firstOf s) ∷ [])) gone-lists snd cnt st r p (keep-requeue q link) refl refl (few-senders ok) own more)))
+        (on-map (Back adm (sts ++ (entryAt (s .head .clock) (firstOf s .packet) ∷ [])) gone-lists snd cnt s r p) Good
+        (λ a m. grown-back (sts ++ (entryAt (s .head .clock) (firstOf s .packet) ∷ [])) r a m refl) (deliver r st (returns p))
+        (back adm (sts ++ (entryAt (s .head .clock) (firstOf s .packet) ∷ [])) gone-lists snd cnt st r p (keep-requeue q link) refl refl (few-senders ok) own more)))
 
   pub link-good : OnMoves Good (outcomeOf s link)
   unfolding outcomeOf actsOf linkActs tryDeliver
   link-good =
-      cond-elim (λ (d : Delivered). OnMoves Good (outcomeWith link (linkWith s d (tryTransmit (d .line) (s .head .clock) (firstOf s) (spanOf (s .network .delay)) (rateOf (s .network .rate)) (packetBits (s .network) (firstOf s))))))
+      cond-elim (λ (d : Delivered). OnMoves Good (outcomeWith link (linkWith s d (tryTransmit (d .line) (s .head .clock) (firstOf s) (spanOf (s .network .delay)) (rateOf (s .network .rate))))))
       (isDue (s .line) (s .head .clock) (frontOf s))
       (cond (lt (unitOf (s .line .rng) .value) (s .network .loss)) (record { left = Left.Lost (frontOf s .packet); line = departed (s .line) }) (record { left = Left.Out (frontOf s .packet); line = departed (s .line) }))
       (record { left = Left.Nobody; line = s .line })
-      (λ e. cond-elim (λ (d : Delivered). OnMoves Good (outcomeWith link (linkWith s d (tryTransmit (d .line) (s .head .clock) (firstOf s) (spanOf (s .network .delay)) (rateOf (s .network .rate)) (packetBits (s .network) (firstOf s))))))
+      (λ e. cond-elim (λ (d : Delivered). OnMoves Good (outcomeWith link (linkWith s d (tryTransmit (d .line) (s .head .clock) (firstOf s) (spanOf (s .network .delay)) (rateOf (s .network .rate))))))
       (lt (unitOf (s .line .rng) .value) (s .network .loss))
       (record { left = Left.Lost (frontOf s .packet); line = departed (s .line) }) (record { left = Left.Out (frontOf s .packet); line = departed (s .line) })
       (λ h. loses e) (λ h. comes e))

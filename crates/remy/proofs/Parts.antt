@@ -1,5 +1,5 @@
 -- Each store of a part keeps what a simulation keeps, with the lists grown by what the part did. Assumes nothing.
-use mathlib.Core.Path.{_≡_, refl, sym, subst}
+use mathlib.Core.Path.{_≡_, refl, sym, ap, subst}
 use mathlib.Core.Bool.{Bool, true, false, not, _&&_, Bool·beq}
 use mathlib.Core.List.{List, [], _∷_, _++_}
 use Prim.Native.Nat.{ℕ, _<_}
@@ -10,7 +10,7 @@ use lib.Ieee.{le, eq}
 use Rattle.quantities.specs.declared.time.Time.{Time}
 use Rattle.quantities.specs.declared.time.OptionTime.{OptionTime}
 use Rattle.quantities.specs.declared.time.OptionTime.the-variants.{None, Some}
-use Rattle.quantities.specs.Units.{spanOf, rateOf, amountOverRate, spanAfter}
+use Rattle.quantities.specs.Units.{spanOf, rateOf, amountOf, amountOverRate, spanAfter}
 use Rattle.meters.specs.declared.meter.AverageFlowMeter.{AverageFlowMeter}
 use Rattle.meters.specs.declared.meter.Metered.{Metered}
 use Rattle.meters.specs.Meter.{ready, isOn, taken, unchanged, turned, switchedOf}
@@ -22,7 +22,8 @@ use Rattle.remy.specs.declared.network.RemyNetwork.{RemyNetwork}
 use Rattle.remy.specs.declared.simulation.Simulation.{Simulation}
 use Rattle.remy.specs.State.{meterAt, firstOf, frontOf, packetBits, withLine, withWaiting, withOnLine, withMeter}
 use Rattle.remy.specs.History.{PacketId, Entry}
-use Rattle.remy.proofs.Lines.{entryAt, leave, start, arrive}
+use Rattle.remy.specs.Tick.{waitsWith}
+use Rattle.remy.proofs.Lines.{entryAt, leave, first-carries, start, arrive}
 use Rattle.remy.proofs.Plain.{Plain, plain-same}
 use Rattle.remy.proofs.Facts.{both-l, both-r}
 use Rattle.remy.proofs.Kept.{Kept, keep-meter}
@@ -65,11 +66,11 @@ module _ {adm sts lvs snd : List Entry} {cnt : List PacketId} {s : Simulation} (
 
   -- ---- link: the first packet that waits starts
   pub keep-start : isFree (s .line) (s .head .clock) ≡ true → leb places (s .line .«on_line» .count) ≡ false
-      → Kept (s .network) adm (sts ++ (entryAt (s .head .clock) (firstOf s) ∷ [])) lvs snd cnt
+      → Kept (s .network) adm (sts ++ (entryAt (s .head .clock) (firstOf s .packet) ∷ [])) lvs snd cnt
       (withLine
       (withOnLine s
-      (set (s .«on_line») (placeAfter (s .line .«on_line»)) (record { packet = firstOf s; due = spanAfter (s .head .clock) (spanOf (s .network .delay)) })))
-      (startedLine (s .line) (packetBits (s .network) (firstOf s)) (spanAfter (s .head .clock) (amountOverRate (packetBits (s .network) (firstOf s)) (rateOf (s .network .rate))))))
+      (set (s .«on_line») (placeAfter (s .line .«on_line»)) (record { packet = firstOf s .packet; due = spanAfter (s .head .clock) (spanOf (s .network .delay)) })))
+      (startedLine (s .line) (firstOf s .bits) (spanAfter (s .head .clock) (amountOverRate (firstOf s .bits) (rateOf (s .network .rate))))))
   unfolding isFree
   keep-start e room =
       let some : 0 < s .line .waiting .count = free-count (s .line) (s .head .clock) e in
@@ -79,7 +80,9 @@ module _ {adm sts lvs snd : List Entry} {cnt : List PacketId} {s : Simulation} (
         network = refl;
         senders-full = k .senders-full;
         meters-full = k .meters-full;
-        line = start (k .line) some (leb-false places (s .line .«on_line» .count) room) (s .head .clock) open-line;
+        line =
+            start (k .line) some (leb-false places (s .line .«on_line» .count) room) (s .head .clock) open-line _
+            (ap (λ b. spanAfter (s .head .clock) (amountOverRate (amountOf b) (rateOf (s .network .rate)))) (first-carries (k .line) some));
         sends = k .sends;
         once = k .once;
         meter = k .meter;
@@ -88,7 +91,7 @@ module _ {adm sts lvs snd : List Entry} {cnt : List PacketId} {s : Simulation} (
   -- ---- link: a packet arrives and is admitted
   pub keep-arrive : (p : Packet) → leb places (s .line .waiting .count) ≡ false → admits (s .network .limit) (s .line .«buffer_contains») (packetBits (s .network) p) ≡ true
       → Kept (s .network) (adm ++ (entryAt (s .head .clock) p ∷ [])) sts lvs snd cnt
-      (withLine (withWaiting s (set (s .waiting) (placeAfter (s .line .waiting)) p)) (admitted (s .line) (packetBits (s .network) p)))
+      (withLine (withWaiting s (set (s .waiting) (placeAfter (s .line .waiting)) (waitsWith s p))) (admitted (s .line) (packetBits (s .network) p)))
   keep-arrive p room fits =
       record {
         network = refl;

@@ -33,7 +33,7 @@ use Rattle.remy.specs.declared.simulation.Built.{Built}
 use Rattle.remy.specs.Network.{networkStop}
 use Rattle.remy.specs.State.{noSender, noToggler, noMeter, withQueue}
 use Rattle.remy.specs.Queue.{picked}
-use Rattle.remy.specs.Build.{emptyNetwork, emptySimulation, newSender, blankWords, blankPacket, blankTransit, blankToggler, Parts, noParts, populate, unqueued, ownTimes, queuedAll, notBuilt, buildFrom, buildOf}
+use Rattle.remy.specs.Build.{emptyNetwork, emptySimulation, newSender, blankWords, blankWaiting, blankTransit, blankToggler, Parts, noParts, populate, unqueued, ownTimes, queuedAll, notBuilt, buildFrom, buildOf}
 use Rattle.remy.specs.History.{Fresh}
 use Rattle.remy.specs.HeldTimes.{Full, IfAny, timerOf, Holds, Has}
 use Rattle.remy.specs.Account.{Limited}
@@ -138,7 +138,7 @@ module _ (n : RemyNetwork) (g : Rng) (p : Parts) (k : NewParts p) where
         meters-full = same-length newMeter 16;
         line =
             record {
-              queue = record { full = same-length blankPacket 512; start = omega arith; count = omega arith };
+              queue = record { full = same-length blankWaiting 512; start = omega arith; count = omega arith };
               transit = record { full = same-length blankTransit 512; start = omega arith; count = omega arith };
               starts = refl;
               leaves = refl;
@@ -146,6 +146,7 @@ module _ (n : RemyNetwork) (g : Rng) (p : Parts) (k : NewParts p) where
               spacing = tt;
               after = tt;
               bits = refl;
+              carried = refl;
               limit = unlimited (n .limit);
             };
         sends = λ i. k .senders i .sent;
@@ -180,7 +181,7 @@ module _ (n : RemyNetwork) (g : Rng) (p : Parts) (k : NewParts p) where
       full : {queue : List Queued} → length queue ≡ queuePlaces → Full (withQueue (unqueued n g p) queue)
       full e =
           record {
-            waiting = same-length blankPacket 512;
+            waiting = same-length blankWaiting 512;
             moving = same-length blankTransit 512;
             senders = k .senders-full;
             togglers = k .togglers-full;

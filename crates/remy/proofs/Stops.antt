@@ -89,7 +89,7 @@ first = record { sender = 0; seq = 1; «sent_time» = timeOf (power 0) }
 abbrev crowded : ℕ → ℕ → Simulation
 crowded waiting onLine =
     withLine
-    (withWaiting (withOnLine (withSent on 1000) (replicate 512 (record { packet = first; due = timeOf (power 1) }))) (replicate 512 first))
+    (withWaiting (withOnLine (withSent on 1000) (replicate 512 (record { packet = first; due = timeOf (power 1) }))) (replicate 512 (record { packet = first; bits = amountOf 8 })))
     (record {
       «earliest_transmit» = timeOf least;
       «buffer_contains» = amountOf (waiting * 8);

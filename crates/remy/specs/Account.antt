@@ -9,7 +9,7 @@ use lib.Dec.{T, ltb, eqb}
 use lib.Ieee.{le}
 use Rattle.quantities.specs.declared.time_span.TimeSpan.{TimeSpan}
 use Rattle.quantities.specs.Units.{spanOf, rateOf, amountOverRate, spanAfter}
-use Rattle.link.specs.declared.packet.Packet.{Packet}
+use Rattle.link.specs.declared.packet.Waiting.{Waiting}
 use Rattle.link.specs.declared.packet.Transit.{Transit}
 use Rattle.link.specs.declared.link.Limit.{Limit}
 use Rattle.link.specs.declared.link.Limit.the-variants as Limit
@@ -17,7 +17,7 @@ use Rattle.remy.specs.declared.network.RemyNetwork.{RemyNetwork}
 use Rattle.remy.specs.declared.simulation.Simulation.{Simulation}
 use Rattle.remy.specs.declared.simulation.TickRecord.{TickRecord}
 use Rattle.remy.specs.Network.{between}
-use Rattle.remy.specs.State.{senderAt, meterAt, waitingItems, onLineItems, onLinePackets, senderBits, packetBits, totalBits}
+use Rattle.remy.specs.State.{senderAt, meterAt, waitingItems, waitingPackets, onLineItems, onLinePackets, senderBits, totalBits}
 use Rattle.remy.specs.History.{Call, after, history, Fresh, PacketId, idOf, Entry, ids, times, admissions, starts, leaves, droppedFull, lost, counted, old, ignored}
 
 -- ---- counting in a list of packets
@@ -34,7 +34,7 @@ ofSender i x = cond (eqb (x .sender) i) 1 0
 abbrev pub isPacket : ℕ → ℕ → PacketId → ℕ
 isPacket i m x = cond (eqb (x .sender) i && eqb (x .seq) m) 1 0
 
--- ---- the account of a line, by its own values: delay, the time that a packet takes to start, limit
+-- ---- the account of a line, by its own values: delay, the time that a packet takes to start, limit, a packet's bits
 
 -- neighbouring starts: the earlier, and the time that its packet takes, rounded each, are not above the later
 abbrev pub Spaced : (PacketId → TimeSpan) → List Entry → Type 0
@@ -47,15 +47,17 @@ abbrev pub Limited : Limit → ℕ → Type 0
 Limited Limit.None bits = Unit {0}
 Limited (Limit.Bits most) bits = bits ≤ most
 
-pub record LineAccount (delay : TimeSpan) (apart : PacketId → TimeSpan) (most : Limit) (size : Packet → ℕ) (admitted started left : List Entry)
-    (waiting : List Packet) (onLine : List Transit) (contains : ℕ) : Type 0 where
+pub record LineAccount (delay : TimeSpan) (apart : PacketId → TimeSpan) (most : Limit) (size : PacketId → ℕ) (admitted started left : List Entry)
+    (waiting : List Waiting) (onLine : List Transit) (contains : ℕ) : Type 0 where
   -- in order, those admitted and not started wait, and those started and not left are on the line: none is passed over
-  pub starts : ids admitted ≡ ids started ++ map idOf waiting
+  pub starts : ids admitted ≡ ids started ++ map (λ x. idOf (x .packet)) waiting
   pub leaves : ids started ≡ ids left ++ map (λ x. idOf (x .packet)) onLine
   -- each leaves at its start plus the delay, rounded once
   pub arrival : times left ≡ map (λ t. spanAfter t delay) (take (length left) (times started))
   pub spacing : Spaced apart started
-  pub bits : contains ≡ totalBits size waiting
+  -- waiting bits are the sum of what the waiting packets carry, and each carries the bits of its sender's packets
+  pub bits : contains ≡ totalBits waiting
+  pub carried : map (λ x. x .bits .0) waiting ≡ map (λ x. size (idOf (x .packet))) waiting
   pub limit : Limited most contains
 
 -- ---- the account
@@ -63,7 +65,7 @@ pub record LineAccount (delay : TimeSpan) (apart : PacketId → TimeSpan) (most 
 -- every packet that was dropped full, waits, is on the line, was lost, counted, old or ignored
 abbrev pub everywhere : List TickRecord → Simulation → List PacketId
 everywhere h s =
-    droppedFull h ++ (map idOf (waitingItems s) ++ (map idOf (onLinePackets s) ++ (lost h ++ (counted h ++ (old h ++ ignored h)))))
+    droppedFull h ++ (map idOf (waitingPackets s) ++ (map idOf (onLinePackets s) ++ (lost h ++ (counted h ++ (old h ++ ignored h)))))
 
 -- n is the network that was built, h the history, s the last state
 pub record Account (n : RemyNetwork) (h : List TickRecord) (s : Simulation) : Type 0 where
@@ -73,7 +75,7 @@ pub record Account (n : RemyNetwork) (h : List TickRecord) (s : Simulation) : Ty
   pub books : (i : ℕ) → i < n .senders
       → senderAt s i .«packets_sent»
       ≡ total (ofSender i) (droppedFull h)
-      + total (ofSender i) (map idOf (waitingItems s))
+      + total (ofSender i) (map idOf (waitingPackets s))
       + total (ofSender i) (map idOf (onLinePackets s))
       + total (ofSender i) (lost h)
       + total (ofSender i) (counted h)
@@ -83,7 +85,7 @@ pub record Account (n : RemyNetwork) (h : List TickRecord) (s : Simulation) : Ty
   pub once : (i m : ℕ) → total (isPacket i m) (everywhere h s) ≡ cond (ltb i (n .senders) && between 1 (senderAt s i .«packets_sent») m) 1 0
   -- counted also equals the number of its meter's records
   pub meter : (i : ℕ) → i < n .senders → meterAt s i .records ≡ total (ofSender i) (counted h)
-  pub line : LineAccount (spanOf (n .delay)) (λ x. amountOverRate (senderBits n (x .sender)) (rateOf (n .rate))) (n .limit) (λ p. packetBits n p .0)
+  pub line : LineAccount (spanOf (n .delay)) (λ x. amountOverRate (senderBits n (x .sender)) (rateOf (n .rate))) (n .limit) (λ x. senderBits n (x .sender) .0)
       (admissions h) (starts h) (leaves h) (waitingItems s) (onLineItems s) (s .line .«buffer_contains» .0)
 
 -- Nobody who builds an accepted network and ticks it can mislay a packet or meet one twice.

@@ -13,6 +13,7 @@ use Rattle.rand.specs.declared.distribution.ContinuousDistribution.the-variants
 use Rattle.rand.specs.Generator.{fromWords, fromSeed, childOf}
 use Rattle.meters.specs.Meter.{newMeter}
 use Rattle.link.specs.declared.packet.Packet.{Packet}
+use Rattle.link.specs.declared.packet.Waiting.{Waiting}
 use Rattle.link.specs.declared.packet.Transit.{Transit}
 use Rattle.link.specs.declared.link.Limit.the-variants as Limit
 use Rattle.link.specs.declared.link.Line.{Line}
@@ -55,6 +56,9 @@ blankWords = fromSeed 0
 abbrev pub blankPacket : Packet
 blankPacket = record { sender = 0; seq = 0; «sent_time» = timeOf zeroF }
 
+abbrev pub blankWaiting : Waiting
+blankWaiting = record { packet = blankPacket; bits = amountOf 0 }
+
 abbrev pub blankTransit : Transit
 blankTransit = record { packet = blankPacket; due = timeOf zeroF }
 
@@ -89,7 +93,7 @@ unqueued n link parts =
       network = n;
       head = record { clock = timeOf zeroF; next = Next.None };
       line = newLine link;
-      waiting = replicate 512 blankPacket;
+      waiting = replicate 512 blankWaiting;
       «on_line» = replicate 512 blankTransit;
       senders = parts .senders;
       togglers = parts .togglers;
@@ -114,7 +118,7 @@ emptyNetwork =
       rate = power 0;
       loss = zeroF;
       limit = Limit.None;
-      bits = 1;
+      bits = replicate 16 1;
       senders = 0;
       on = Always (power 0);
       off = Always (power 0);
@@ -131,7 +135,7 @@ emptySimulation =
       network = emptyNetwork;
       head = record { clock = endOfTime; next = Next.None };
       line = newLine emptyWords;
-      waiting = replicate 512 blankPacket;
+      waiting = replicate 512 blankWaiting;
       «on_line» = replicate 512 blankTransit;
       senders = replicate 16 (newSender blankWords);
       togglers = replicate 16 blankToggler;

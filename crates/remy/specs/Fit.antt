@@ -1,6 +1,6 @@
 -- Document 01, the paragraph "Unfit" below "Stops": a clause each, in the paragraph's order, then document 02's, and their conjunction. Definitions only.
 -- Each definition says what a fit state has; a state in which one is false is unfit (9). Only the network's own senders, togglers and meters are read.
-use Prim.Native.Nat.{ℕ, zero, suc, _+_, _*_}
+use Prim.Native.Nat.{ℕ, _+_, _*_}
 use mathlib.Core.Bool.{Bool, true, false, not, _&&_, _||_, Bool·beq, cond}
 use mathlib.Core.List.{List, [], _∷_}
 use lib.Dec.{leb, ltb, eqb}
@@ -12,6 +12,7 @@ use Rattle.quantities.specs.Doubles.{zeroF, power, largest, inRange}
 use Rattle.rand.specs.Generator.{allZero}
 use Rattle.meters.specs.Meter.{isOn, totalFit, sumFit}
 use Rattle.link.specs.declared.packet.Packet.{Packet}
+use Rattle.link.specs.declared.packet.Waiting.{Waiting}
 use Rattle.link.specs.declared.packet.Transit.{Transit}
 use Rattle.sender.specs.declared.lossy.Policy.{Policy}
 use Rattle.sender.specs.declared.lossy.Policy.the-variants.{Held, Grown, Timed}
@@ -23,19 +24,15 @@ use Rattle.toggler.specs.Queue.{queuePlaces}
 use Rattle.remy.specs.declared.simulation.Next.{Next}
 use Rattle.remy.specs.declared.simulation.Next.the-variants as Next
 use Rattle.remy.specs.declared.simulation.Simulation.{Simulation}
-use Rattle.remy.specs.Network.{between, windowFit, networkStop}
-use Rattle.remy.specs.State.{senderAt, togglerAt, meterAt, queuedAt, waitingItems, onLineItems, onLinePackets, packetBits, totalBits}
+use Rattle.remy.specs.Network.{upTo, between, windowFit, networkStop}
+use Rattle.remy.specs.State.{senderAt, togglerAt, meterAt, queuedAt, waitingItems, waitingPackets, onLineItems, onLinePackets, senderBits, packetBits, totalBits}
 use Rattle.remy.specs.Queue.{nextTimeOf}
 
--- ---- tests of every member, and of every number below n
+-- ---- tests of every member, and of every sender
 
 abbrev pub every : {A : Type 0} → (A → Bool) → List A → Bool
 every f [] = true
 every f (x ∷ xs) = f x && every f xs
-
-abbrev pub upTo : ℕ → (ℕ → Bool) → Bool
-upTo zero f = true
-upTo (suc n) f = upTo n f && f n
 
 abbrev pub eachSender : Simulation → (ℕ → Bool) → Bool
 eachSender s f = upTo (s .network .senders) f
@@ -59,11 +56,11 @@ abbrev pub packetFit : Simulation → Packet → Bool
 packetFit s p = ltb (p .sender) (s .network .senders) && between 1 (senderAt s (p .sender) .«packets_sent») (p .seq)
 
 unfoldable pub packetsFit : Simulation → Bool
-packetsFit s = every (packetFit s) (waitingItems s) && every (packetFit s) (onLinePackets s)
+packetsFit s = every (packetFit s) (waitingPackets s) && every (packetFit s) (onLinePackets s)
 
--- waiting bits other than the waiting packets' bits
+-- waiting bits other than the waiting packets' bits: the sum of what each carries
 unfoldable pub bitsFit : Simulation → Bool
-bitsFit s = eqb (s .line .«buffer_contains» .0) (totalBits (λ p. packetBits (s .network) p .0) (waitingItems s))
+bitsFit s = eqb (s .line .«buffer_contains» .0) (totalBits (waitingItems s))
 
 -- a clock below 0
 unfoldable pub clockFit : Simulation → Bool
@@ -94,7 +91,7 @@ unfoldable pub heldTimesFit : Simulation → Bool
 heldTimesFit s =
     (held (s .head .clock) || (isIdle (s .head .next) && eq (s .head .clock .0 .0) largest))
     && held (s .line .«earliest_transmit»)
-    && every (λ p. held (p .«sent_time»)) (waitingItems s)
+    && every (λ p. held (p .«sent_time»)) (waitingPackets s)
     && every (λ p. held (p .«sent_time»)) (onLinePackets s)
     && every (λ x. held (x .due)) (onLineItems s)
     && eachSender s (λ i. heldSender (senderAt s i .state))
@@ -116,7 +113,7 @@ meterStartFit s (Some t) = sinceStart s t
 
 unfoldable pub pastFit : Simulation → Bool
 pastFit s =
-    every (λ p. sinceStart s (p .«sent_time»)) (waitingItems s)
+    every (λ p. sinceStart s (p .«sent_time»)) (waitingPackets s)
     && every (λ p. sinceStart s (p .«sent_time»)) (onLinePackets s)
     && eachSender s (λ i. startedFit s (senderAt s i .state))
     && eachSender s (λ i. meterStartFit s (meterAt s i .«current_start»))
@@ -136,7 +133,7 @@ countOf i (p ∷ ps) = cond (eqb (p .sender) i) 1 0 + countOf i ps
 
 unfoldable pub recordsFit : Simulation → Bool
 recordsFit s =
-    eachSender s (λ i. leb (meterAt s i .records + countOf i (waitingItems s) + countOf i (onLinePackets s)) (senderAt s i .«packets_sent»))
+    eachSender s (λ i. leb (meterAt s i .records + countOf i (waitingPackets s) + countOf i (onLinePackets s)) (senderAt s i .«packets_sent»))
 
 -- on-line due times that fall
 abbrev pub rising : List Transit → Bool
@@ -188,9 +185,9 @@ togglersAgree s = eachSender s (λ i. Bool·beq (togglerAt s i .enabled) (sender
 unfoldable pub metersAgree : Simulation → Bool
 metersAgree s = eachSender s (λ i. Bool·beq (senderOn (senderAt s i .state)) (isOn (meterAt s i .«current_start»)))
 
--- meter bits other than its records times the packet bits
+-- meter bits other than its records times the packet bits, its sender's own (document 02, K1)
 unfoldable pub meterBitsFit : Simulation → Bool
-meterBitsFit s = eachSender s (λ i. eqb (meterAt s i .total .0) (meterAt s i .records * s .network .bits))
+meterBitsFit s = eachSender s (λ i. eqb (meterAt s i .total .0) (meterAt s i .records * senderBits (s .network) i .0))
 
 -- a next component whose own next time isn't the clock, none though a part is queued,
 abbrev pub sameTime : OptionTime → OptionTime → Bool
@@ -211,6 +208,13 @@ isNext (Next.Part j) k = eqb j k
 -- or another part whose queued time isn't its own next time (queued with none, or not queued with one, included)
 unfoldable pub queueFit : Simulation → Bool
 queueFit s = nextFit s (s .head .next) && upTo queuePlaces (λ k. isNext (s .head .next) k || sameTime (queuedAt s k) (nextTimeOf s k))
+
+-- document 02, K1: a waiting packet that carries other bits than its sender's
+abbrev pub carries : Simulation → Waiting → Bool
+carries s x = eqb (x .bits .0) (packetBits (s .network) (x .packet) .0)
+
+unfoldable pub carriedFit : Simulation → Bool
+carriedFit s = every (carries s) (waitingItems s)
 
 -- document 02, K5: four zero words, in the generator of the link, of a sender or of a toggler
 unfoldable pub wordsFit : Simulation → Bool
@@ -241,4 +245,5 @@ fit s =
     && metersAgree s
     && meterBitsFit s
     && queueFit s
+    && carriedFit s
     && wordsFit s

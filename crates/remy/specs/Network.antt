@@ -1,7 +1,9 @@
 -- Document 01, "Stops", rows 1 to 7: the ranges of a network. Definitions only. Ranges include both ends; NaN is in none; of several the lowest.
-use Prim.Native.Nat.{ℕ}
+use Prim.Native.Nat.{ℕ, zero, suc}
 use mathlib.Core.Bool.{Bool, true, false, _&&_, cond}
+use mathlib.Core.List.{List}
 use lib.Dec.{leb}
+use lib.ListN.{getD}
 use lib.IntN.{negsuc}
 use lib.Ieee.{Float, fin, lt, le}
 use Rattle.quantities.specs.Doubles.{zeroF, power, inRange}
@@ -12,6 +14,11 @@ use Rattle.link.specs.declared.link.Limit.the-variants as Limit
 use Rattle.sender.specs.declared.lossy.Policy.{Policy}
 use Rattle.sender.specs.declared.lossy.Policy.the-variants.{Held, Grown, Timed}
 use Rattle.remy.specs.declared.network.RemyNetwork.{RemyNetwork}
+
+-- a test of every number below n
+abbrev pub upTo : ℕ → (ℕ → Bool) → Bool
+upTo zero f = true
+upTo (suc n) f = upTo n f && f n
 
 -- a whole number in lo..hi
 abbrev pub between : ℕ → ℕ → ℕ → Bool
@@ -34,9 +41,9 @@ abbrev pub limitFit : Limit → Bool
 limitFit Limit.None = true
 limitFit (Limit.Bits most) = leb most 1125899906842624
 
--- 5: packet bits not in 1..2^24, or over 16 senders
-abbrev pub sizesFit : ℕ → ℕ → Bool
-sizesFit bits senders = between 1 16777216 bits && leb senders 16
+-- 5: packet bits not in 1..2^24, or over 16 senders. Each sender's own bits are read (document 02, K1), and with no senders none.
+abbrev pub sizesFit : List ℕ → ℕ → Bool
+sizesFit bits senders = leb senders 16 && upTo senders (λ i. between 1 16777216 (getD bits i 0))
 
 -- 6: on or off: always v not in 0 < v ≤ 2^20; uniform not 0 ≤ min < max ≤ 2^20
 abbrev pub timesFit : ContinuousDistribution → Bool

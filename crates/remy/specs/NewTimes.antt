@@ -22,7 +22,7 @@ use Rattle.toggler.specs.Toggler.{nextToggle, toggleDraw}
 use Rattle.remy.specs.declared.simulation.Next.{Next}
 use Rattle.remy.specs.declared.simulation.Next.the-variants as Next
 use Rattle.remy.specs.declared.simulation.Simulation.{Simulation}
-use Rattle.remy.specs.State.{Role, link, sender, toggler, nobody, roleOf, senderAt, togglerAt, firstOf, frontOf, packetBits}
+use Rattle.remy.specs.State.{Role, link, sender, toggler, nobody, roleOf, senderAt, togglerAt, firstOf, frontOf}
 use Rattle.remy.specs.Fit.{fit}
 
 -- the link, after the packet that leaves: where a packet starts (none at 13), the earliest start clock + bits/rate and the due time clock + delay
@@ -31,7 +31,7 @@ startTimes s l =
     let clock = s .head .clock in
     cond (isFree l clock)
     (cond (leb places (l .«on_line» .count)) []
-    (nextStart clock (packetBits (s .network) (firstOf s)) (rateOf (s .network .rate)) ∷ (dueTime clock (spanOf (s .network .delay)) ∷ [])))
+    (nextStart clock (firstOf s .bits) (rateOf (s .network .rate)) ∷ (dueTime clock (spanOf (s .network .delay)) ∷ [])))
     []
 
 abbrev pub linkTimes : Simulation → List Time

@@ -13,6 +13,7 @@ use Rattle.quantities.specs.Units.{spanOf, timeOf, amountOf}
 use Rattle.rand.specs.declared.generator.Rng.{Rng}
 use Rattle.meters.specs.declared.meter.AverageFlowMeter.{AverageFlowMeter}
 use Rattle.link.specs.declared.packet.Packet.{Packet}
+use Rattle.link.specs.declared.packet.Waiting.{Waiting}
 use Rattle.link.specs.declared.packet.Transit.{Transit}
 use Rattle.link.specs.declared.link.Line.{Line}
 use Rattle.sender.specs.declared.lossy.SenderState.the-variants as State
@@ -53,6 +54,9 @@ noTime = timeOf nan
 abbrev pub noPacket : Packet
 noPacket = record { sender = 0; seq = 0; «sent_time» = noTime }
 
+abbrev pub noWaiting : Waiting
+noWaiting = record { packet = noPacket; bits = amountOf 0 }
+
 abbrev pub noTransit : Transit
 noTransit = record { packet = noPacket; due = noTime }
 
@@ -81,15 +85,18 @@ abbrev pub queuedAt : Simulation → ℕ → OptionTime
 queuedAt s k = getD (s .queue) k noQueued .time
 
 -- the first packet that waits, and the first on the line
-abbrev pub firstOf : Simulation → Packet
-firstOf s = getD (s .waiting) (s .line .waiting .start) noPacket
+abbrev pub firstOf : Simulation → Waiting
+firstOf s = getD (s .waiting) (s .line .waiting .start) noWaiting
 
 abbrev pub frontOf : Simulation → Transit
 frontOf s = getD (s .«on_line») (s .line .«on_line» .start) noTransit
 
 -- the packets that wait, and those on the line, in order
-abbrev pub waitingItems : Simulation → List Packet
-waitingItems s = items noPacket (s .waiting) (s .line .waiting)
+abbrev pub waitingItems : Simulation → List Waiting
+waitingItems s = items noWaiting (s .waiting) (s .line .waiting)
+
+abbrev pub waitingPackets : Simulation → List Packet
+waitingPackets s = map (λ x. x .packet) (waitingItems s)
 
 abbrev pub onLineItems : Simulation → List Transit
 onLineItems s = items noTransit (s .«on_line») (s .line .«on_line»)
@@ -97,17 +104,17 @@ onLineItems s = items noTransit (s .«on_line») (s .line .«on_line»)
 abbrev pub onLinePackets : Simulation → List Packet
 onLinePackets s = map (λ x. x .packet) (onLineItems s)
 
--- All packets have the network's packet bits: those of sender i, and those of a packet.
+-- Each sender has its own packet bits (document 02, K1): those of sender i, and those of a packet's sender.
 abbrev pub senderBits : RemyNetwork → ℕ → Information
-senderBits n i = amountOf (n .bits)
+senderBits n i = amountOf (getD (n .bits) i 0)
 
 abbrev pub packetBits : RemyNetwork → Packet → Information
 packetBits n p = senderBits n (p .sender)
 
--- the sum of packets' bits
-abbrev pub totalBits : (Packet → ℕ) → List Packet → ℕ
-totalBits bits [] = 0
-totalBits bits (p ∷ ps) = bits p + totalBits bits ps
+-- the sum of the bits that waiting packets carry
+abbrev pub totalBits : List Waiting → ℕ
+totalBits [] = 0
+totalBits (x ∷ xs) = x .bits .0 + totalBits xs
 
 -- ---- one setter for each field that changes
 
@@ -139,7 +146,7 @@ withLine s x =
       queue = s .queue;
     }
 
-abbrev pub withWaiting : Simulation → List Packet → Simulation
+abbrev pub withWaiting : Simulation → List Waiting → Simulation
 withWaiting s x =
     record {
       network = s .network;

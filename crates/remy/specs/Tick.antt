@@ -9,6 +9,7 @@ use Rattle.quantities.specs.Doubles.{zeroF, power}
 use Rattle.quantities.specs.Units.{spanOf, timeOf, rateOf, since}
 use Rattle.meters.specs.Meter.{switchedOf, recordedOf}
 use Rattle.link.specs.declared.packet.Packet.{Packet}
+use Rattle.link.specs.declared.packet.Waiting.{Waiting}
 use Rattle.link.specs.declared.link.Arrival.{Arrival}
 use Rattle.link.specs.declared.link.Left.{Left}
 use Rattle.link.specs.declared.link.Left.the-variants as Left
@@ -109,7 +110,7 @@ linkWith s d t =
 unfoldable pub linkActs : Simulation → Acted
 linkActs s =
     let d = tryDeliver (s .line) (s .head .clock) (frontOf s) (s .network .loss) in
-    linkWith s d (tryTransmit (d .line) (s .head .clock) (firstOf s) (spanOf (s .network .delay)) (rateOf (s .network .rate)) (packetBits (s .network) (firstOf s)))
+    linkWith s d (tryTransmit (d .line) (s .head .clock) (firstOf s) (spanOf (s .network .delay)) (rateOf (s .network .rate)))
 
 -- Sender: a timer equal to the clock goes first and alone; else one packet.
 
@@ -176,12 +177,16 @@ pub data Outcome : Type 0 where
   moves : TickRecord → Simulation → Outcome
   stops : ℕ → Outcome
 
+-- a packet waits with its sender's bits
+abbrev pub waitsWith : Simulation → Packet → Waiting
+waitsWith s p = record { packet = p; bits = packetBits (s .network) p }
+
 -- S sent and admitted, F sent and dropped full; 12 where the link stops
 abbrev pub arriveWith : TickRecord → Simulation → Packet → Arrival → Outcome
 arriveWith r s p a =
     cond (eqb (a .number) 0)
     (cond (a .admitted)
-    (moves (marked r Mark.Sent) (requeue (withLine (withWaiting s (set (s .waiting) (placeAfter (s .line .waiting)) p)) (a .line)) link))
+    (moves (marked r Mark.Sent) (requeue (withLine (withWaiting s (set (s .waiting) (placeAfter (s .line .waiting)) (waitsWith s p))) (a .line)) link))
     (moves (marked r Mark.Full) (requeue s link)))
     (stops (a .number))
 

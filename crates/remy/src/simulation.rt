@@ -1,7 +1,7 @@
 use crate::network::RemyNetwork;
 use link::Line;
-use link::Packet;
 use link::Transit;
+use link::Waiting;
 use meters::AverageFlowMeter;
 use quantities::Time;
 use sender::LossySender;
@@ -26,7 +26,7 @@ pub struct Simulation {
     pub network: RemyNetwork,
     pub head: Head,
     pub line: Line,
-    pub waiting: [Packet; 512],
+    pub waiting: [Waiting; 512],
     pub on_line: [Transit; 512],
     pub senders: [LossySender; 16],
     pub togglers: [Toggler; 16],

@@ -9,8 +9,7 @@ use Rattle.remy.specs.declared.simulation.Built.{Built}
 use Rattle.remy.specs.Build.{emptySimulation, buildOf}
 use Rattle.description.specs.declared.Description.{Description}
 use Rattle.description.specs.declared.ReadDescription.{ReadDescription}
-use Rattle.description.specs.declared.ReadDescription.the-variants.{Given, Malformed}
-use Rattle.description.specs.Text.{textOf, InWidth}
+use Rattle.description.specs.Text.{Written, textOf, InWidth, ReadAs, given, malformed, answerOf}
 use Rattle.printer.specs.Printing.{refusedText}
 use Rattle.report.specs.declared.run.Stage.{Stage}
 use Rattle.report.specs.declared.run.Stage.the-variants as Stage
@@ -36,12 +35,18 @@ firstStage number ticks = cond (eqb number 0) (Stage.Ticks ticks) (Stage.Refused
 abbrev pub startedReport : Built → ℕ → Report
 startedReport b ticks = record { stage = firstStage (b .number) ticks; simulation = b .simulation }
 
--- the report of what a text is read as: 15 where it is malformed
-unfoldable pub reportOf : ReadDescription → Report
-reportOf (Given d) = startedReport (buildOf (networkOf d) (d .seed)) (d .ticks)
-reportOf Malformed = record { stage = Stage.Refused 15; simulation = emptySimulation }
+-- the report of a description; of an answer, whose number is printed alone where it is not 0
+unfoldable pub begunOf : Description → Report
+begunOf d = startedReport (buildOf (networkOf d) (d .seed)) (d .ticks)
 
--- P holds of what the text is read as: of the description that it is the text of, and of a malformed one where there is none
-pub record ForText (text : List ℕ) (P : ReadDescription → Type 0) : Type 0 where
-  pub given : (d : Description) → text ≡ textOf d → InWidth d → P (Given d)
-  pub other : ((d : Description) → text ≡ textOf d → InWidth d → ⊥) → P Malformed
+unfoldable pub answeredOf : ReadDescription → Report
+answeredOf r = cond (eqb (r .number) 0) (begunOf (r .description)) (record { stage = Stage.Refused (r .number); simulation = emptySimulation })
+
+-- the report of what a text is read as
+unfoldable pub reportOf : ReadAs → Report
+reportOf d = answeredOf (answerOf d)
+
+-- P holds of what the text is read as: of what is written where it is a description's text, and of a malformed one where it is none
+pub record ForText (text : List ℕ) (P : ReadAs → Type 0) : Type 0 where
+  pub given : (w : Written) → text ≡ textOf w → InWidth w → P (given w)
+  pub other : ((w : Written) → text ≡ textOf w → InWidth w → ⊥) → P malformed

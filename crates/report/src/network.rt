@@ -45,6 +45,7 @@ pub(crate) fn network_of(description: Description) -> RemyNetwork
     ensures { λ r. ⌜ r ≡ networkOf description ⌝ }
 {
     let limit = description.limit;
+    let bits = description.bits;
     let on = description.on;
     let off = description.off;
     let policy = description.policy;
@@ -53,7 +54,7 @@ pub(crate) fn network_of(description: Description) -> RemyNetwork
         rate: from_bits(description.rate),
         loss: from_bits(description.loss),
         limit: limit_of(limit),
-        bits: description.bits,
+        bits,
         senders: description.senders,
         on: distribution_of(on),
         off: distribution_of(off),

@@ -1,10 +1,8 @@
 // The report of a text: what is left to print of it.
 ghost use mathlib.Core.Path.{_≡_};
-ghost use Rattle.description.specs.declared.ReadDescription.the-variants.{Given};
-ghost use Rattle.report.specs.Report.{firstStage, reportOf, ForText};
+ghost use Rattle.report.specs.Report.{firstStage, begunOf, reportOf, ForText};
 use crate::network::network_of;
 use description::Description;
-use description::ReadDescription;
 use remy::Simulation;
 
 // What is printed next: a refusal, the records of so many ticks, the stop line with the last number,
@@ -35,7 +33,7 @@ fn first(number: u32, ticks: u32) -> Stage
 
 // The report of a description.
 fn begun(description: Description) -> Report
-    ensures { λ r. ⌜ r ≡ reportOf (Given description) ⌝ }
+    ensures { λ r. ⌜ r ≡ begunOf description ⌝ }
 {
     let built = builder::build(network_of(description), description.seed);
     let simulation = built.simulation;
@@ -43,18 +41,18 @@ fn begun(description: Description) -> Report
     Report { stage, simulation }
 }
 
-// The report of a text. A text that is no description is 15.
+// The report of a text. One that is no description has only its number.
 pub fn report_of(text: &[u8]) -> Report
     ensures { λ r. ⌜ ForText (now (text .entry)) (λ d. r ≡ reportOf d) ⌝ }
 {
-    match description::read(text) {
-        ReadDescription::Given(d) => begun(d),
-        ReadDescription::Malformed => {
-            let simulation = builder::empty_simulation();
-            Report {
-                stage: Stage::Refused(15),
-                simulation,
-            }
-        }
+    let answer = description::read(text);
+    if answer.number != 0 {
+        let simulation = builder::empty_simulation();
+        return Report {
+            stage: Stage::Refused(answer.number),
+            simulation,
+        };
     }
+    let description = answer.description;
+    begun(description)
 }

@@ -13,14 +13,14 @@ pub fn byte_at(text: &[u8], at: usize) -> u8
 
 // The place of field k, counted from 0, of the line at a place.
 fn field(at: usize, k: usize) -> usize
-    ensures { λ r. ⌜ (r ≡ fieldAt at k) × (r < 262436) ⌝ }
+    ensures { λ r. ⌜ (r ≡ fieldAt at k) × (r < 524834) ⌝ }
 {
-    if at < 262144 {
-        if k < 18 {
+    if at < 524288 {
+        if k < 33 {
             return at + 2 + 17 * k;
         }
     }
-    262144
+    524288
 }
 
 // Whether field k of the line at a place is absent: it begins with `-`.

@@ -5,8 +5,9 @@ use lib.Ieee.{eq}
 use Rattle.quantities.specs.Doubles.{largest}
 use Rattle.toggler.specs.Queue.{queuePlaces}
 use Rattle.remy.specs.declared.simulation.Simulation.{Simulation}
-use Rattle.remy.specs.State.{senderAt, togglerAt, meterAt, queuedAt, waitingItems, onLineItems, onLinePackets}
-use Rattle.remy.specs.Fit.{every, upTo, eachSender, held, heldIfAny, isIdle, heldSender, heldQueued, sinceStart, startedFit, meterStartFit, heldTimesFit, pastFit}
+use Rattle.remy.specs.State.{senderAt, togglerAt, meterAt, queuedAt, waitingPackets, onLineItems, onLinePackets}
+use Rattle.remy.specs.Network.{upTo}
+use Rattle.remy.specs.Fit.{every, eachSender, held, heldIfAny, isIdle, heldSender, heldQueued, sinceStart, startedFit, meterStartFit, heldTimesFit, pastFit}
 use Rattle.remy.proofs.Facts.{both-l, both-r}
 
 pub record HeldTimes (s : Simulation) : Type 0 where
@@ -22,7 +23,7 @@ unfolding heldTimesFit
 held-times s all =
     let now = held (s .head .clock) || (isIdle (s .head .next) && eq (s .head .clock .0 .0) largest) in
     let free = held (s .line .«earliest_transmit») in
-    let waiting = every (λ p. held (p .«sent_time»)) (waitingItems s) in
+    let waiting = every (λ p. held (p .«sent_time»)) (waitingPackets s) in
     let moving = every (λ p. held (p .«sent_time»)) (onLinePackets s) in
     let dues = every (λ x. held (x .due)) (onLineItems s) in
     let senders = eachSender s (λ i. heldSender (senderAt s i .state)) in
@@ -48,7 +49,7 @@ held-times s all =
     }
 
 pub record PastTimes (s : Simulation) : Type 0 where
-  pub waiting : every (λ p. sinceStart s (p .«sent_time»)) (waitingItems s) ≡ true
+  pub waiting : every (λ p. sinceStart s (p .«sent_time»)) (waitingPackets s) ≡ true
   pub moving : every (λ p. sinceStart s (p .«sent_time»)) (onLinePackets s) ≡ true
   pub senders : eachSender s (λ i. startedFit s (senderAt s i .state)) ≡ true
   pub meters : eachSender s (λ i. meterStartFit s (meterAt s i .«current_start»)) ≡ true
@@ -56,7 +57,7 @@ pub record PastTimes (s : Simulation) : Type 0 where
 pub past-times : (s : Simulation) → pastFit s ≡ true → PastTimes s
 unfolding pastFit
 past-times s all =
-    let waiting = every (λ p. sinceStart s (p .«sent_time»)) (waitingItems s) in
+    let waiting = every (λ p. sinceStart s (p .«sent_time»)) (waitingPackets s) in
     let moving = every (λ p. sinceStart s (p .«sent_time»)) (onLinePackets s) in
     let senders = eachSender s (λ i. startedFit s (senderAt s i .state)) in
     let meters = eachSender s (λ i. meterStartFit s (meterAt s i .«current_start»)) in

@@ -31,8 +31,6 @@ use Rattle.remy.specs.HeldTimes.{Full, Kinds, IfAny, timerOf, dueTimes, Holds, 
 use Rattle.remy.specs.History.{Call, tick, after, noted, history, Fresh}
 use Rattle.remy.proofs.Lists.{All, all-map, all-mapped, all-member, member-all}
 use Rattle.remy.proofs.Facts.{FitState}
-use Rattle.remy.proofs.Networks.{FitNetwork}
-use Rattle.remy.proofs.Front.{accepted, from-zero, clock-bounded}
 use Rattle.remy.proofs.Plain.{Plain, PlainOrLeast, plain}
 use Rattle.remy.proofs.NewTimes.{part-has, part-fine, new-times-fine}
 use Rattle.remy.proofs.HeldTimes.{any-map, Every, Closed, tick-held, tick-has}
@@ -52,10 +50,10 @@ doubles-closed c d = record { now = d; last = unfold fits in tt; freed = λ t e.
     by t e true = e
     by t e false = d
 
-new-doubles : (s : Simulation) → Double (s .head .clock) → FitNetwork (s .network) → (role : Role) → All (Every doubles) (partTimes s role)
-new-doubles s d n role =
+new-doubles : (s : Simulation) → Double (s .head .clock) → FitState s → (role : Role) → All (Every doubles) (partTimes s role)
+new-doubles s d f role =
     all-map Double (Every doubles) (λ t e. record { free = e; due = e; timer = λ i. e; toggle = λ i. e }) (partTimes s role)
-    (part-has s n Double (λ w. sum _) (λ w. sum _) (λ gap w. sum gap) (λ draw w. sum draw) role)
+    (part-has s f Double (λ w. sum _) (λ w. sum _) (λ gap w. sum gap) (λ draw w. sum draw) role)
   where
     -- a sum is rounded to a double, whatever its parts are
     sum : (span : Float) → Double (spanAfter (s .head .clock) (spanOf span))
@@ -137,7 +135,7 @@ module _ (s : Simulation) (y : Typed s) (f : FitState s) (early : lt (power 40) 
   new-from role =
       all-map (FineTime (s .head .clock)) (Every (ahead (s .head .clock)))
       (λ t x. record { free = le-known-r (s .head .clock .0 .0) (t .0 .0) (x .ahead); due = x .ahead; timer = λ i. x .ahead; toggle = λ i. x .ahead }) (partTimes s role)
-      (part-fine s (y .clock) (from-zero s f, clock-bounded s f early) (accepted s f) role)
+      (part-fine s (y .clock) f early role)
 
 -- a tick that moved: its record is at the clock, which is no NaN, and the next clock is not before it
 record Stepped (s : Simulation) (t : Ticked) : Type 0 where

@@ -14,6 +14,7 @@ use Rattle.quantities.specs.Doubles.{zeroF, power}
 use Rattle.quantities.proofs.Order.{le-trans}
 use Rattle.meters.specs.Meter.{isOn, totalFit, sumFit}
 use Rattle.link.specs.declared.packet.Packet.{Packet}
+use Rattle.link.specs.declared.packet.Waiting.{Waiting}
 use Rattle.link.specs.declared.packet.Transit.{Transit}
 use Rattle.sender.specs.declared.lossy.Policy.{Policy}
 use Rattle.sender.specs.declared.lossy.SenderState.{SenderState}
@@ -22,14 +23,14 @@ use Rattle.link.specs.Ring.{places}
 use Rattle.toggler.specs.Queue.{queuePlaces}
 use Rattle.remy.specs.declared.simulation.Next.{Next}
 use Rattle.remy.specs.declared.simulation.Simulation.{Simulation}
-use Rattle.remy.specs.Network.{between, networkStop}
-use Rattle.remy.specs.State.{senderAt, togglerAt, meterAt, queuedAt, waitingItems, onLineItems, onLinePackets, packetBits, totalBits}
+use Rattle.remy.specs.Network.{upTo, between, networkStop}
+use Rattle.remy.specs.State.{senderAt, togglerAt, meterAt, queuedAt, waitingItems, waitingPackets, onLineItems, onLinePackets, senderBits, packetBits, totalBits}
 use Rattle.remy.specs.Queue.{nextTimeOf}
-use Rattle.remy.specs.Fit.{every, upTo, eachSender, packetFit, held, heldIfAny, heldSender, heldQueued, isNext, sinceStart, startedFit, meterStartFit, countOf, ackFit, heldWindowFit, isTimed, timerFit, senderOn, sameTime, nextFit, networkFit, ringsFit, packetsFit, bitsFit, clockFit, heldTimesFit, pastFit, totalsFit, sumsFit, recordsFit, dueFit, countsFit, windowsFit, timersFit, togglersAgree, metersAgree, meterBitsFit, queueFit, wordsFit, fit}
+use Rattle.remy.specs.Fit.{every, eachSender, packetFit, held, heldIfAny, heldSender, heldQueued, isNext, sinceStart, startedFit, meterStartFit, countOf, ackFit, heldWindowFit, isTimed, timerFit, senderOn, sameTime, nextFit, networkFit, ringsFit, packetsFit, bitsFit, clockFit, heldTimesFit, pastFit, totalsFit, sumsFit, recordsFit, dueFit, countsFit, windowsFit, timersFit, togglersAgree, metersAgree, meterBitsFit, queueFit, carries, carriedFit, wordsFit, fit}
 use Rattle.remy.proofs.Facts.{both-i, range-i, words-joined}
 use Rattle.remy.proofs.Fresh.{or-else, upTo-intro, fit-intro}
 use Rattle.steady.specs.Steady.{dueSoon, steady}
-use Rattle.steady.proofs.Facts.{Past, PastIfAny, PacketOk, TransitOk, TimerIfAny, StateOk, PartOk, sentOf, Body, Between}
+use Rattle.steady.proofs.Facts.{Past, PastIfAny, PacketOk, WaitsOk, TransitOk, TimerIfAny, StateOk, PartAt, sentOf, Body, Between}
 use Rattle.remy.proofs.Lists.{all-map, all-mapped}
 use Rattle.steady.proofs.Lists.{all-every}
 
@@ -49,11 +50,17 @@ module _ (s : Simulation) (b : Body s) where
   abbrev Moves : Transit → Type 0
   Moves = TransitOk (s .network .senders) (sentOf s) (s .head .clock) (s .network .delay)
 
-  abbrev Part : ℕ → Type 0
-  Part i = PartOk (s .network) (s .head .clock) (senderAt s i) (togglerAt s i) (meterAt s i)
+  abbrev Waits : Waiting → Type 0
+  Waits = WaitsOk (s .network) (sentOf s) (s .head .clock)
 
-  each-waiting : (f : Packet → Bool) → ((p : Packet) → Good p → f p ≡ true) → every f (waitingItems s) ≡ true
-  each-waiting f g = all-every f (waitingItems s) (all-map Good (λ p. f p ≡ true) g (waitingItems s) (b .line .waiting-ok))
+  each-waits : (f : Waiting → Bool) → ((x : Waiting) → Waits x → f x ≡ true) → every f (waitingItems s) ≡ true
+  each-waits f g = all-every f (waitingItems s) (all-map Waits (λ x. f x ≡ true) g (waitingItems s) (b .line .waiting-ok))
+
+  each-waiting : (f : Packet → Bool) → ((p : Packet) → Good p → f p ≡ true) → every f (waitingPackets s) ≡ true
+  each-waiting f g =
+      all-every f (waitingPackets s)
+      (all-mapped (λ p. f p ≡ true) (λ x. x .packet) (waitingItems s)
+      (all-map Waits (λ x. f (x .packet) ≡ true) (λ x w. g (x .packet) (w .packet)) (waitingItems s) (b .line .waiting-ok)))
 
   each-transit : (f : Transit → Bool) → ((x : Transit) → Moves x → f x ≡ true) → every f (onLineItems s) ≡ true
   each-transit f g = all-every f (onLineItems s) (all-map Moves (λ x. f x ≡ true) g (onLineItems s) (b .line .moving-ok))
@@ -64,7 +71,7 @@ module _ (s : Simulation) (b : Body s) where
       (all-mapped (λ p. f p ≡ true) (λ x. x .packet) (onLineItems s)
       (all-map Moves (λ x. f (x .packet) ≡ true) (λ x m. g (x .packet) (m .packet)) (onLineItems s) (b .line .moving-ok)))
 
-  each-part : (f : ℕ → Bool) → ((i : ℕ) → Part i → f i ≡ true) → eachSender s f ≡ true
+  each-part : (f : ℕ → Bool) → ((i : ℕ) → PartAt s i → f i ≡ true) → eachSender s f ≡ true
   each-part f g = upTo-intro (s .network .senders) f (λ i h. g i (b .parts i h))
 
   -- ---- tests of one
@@ -138,11 +145,11 @@ module _ (s : Simulation) (b : Body s) where
   packets-fit : packetsFit s ≡ true
   unfolding packetsFit
   packets-fit =
-      both-i (every (packetFit s) (waitingItems s)) (every (packetFit s) (onLinePackets s)) (each-waiting (packetFit s) packet-fit) (each-moving (packetFit s) packet-fit)
+      both-i (every (packetFit s) (waitingPackets s)) (every (packetFit s) (onLinePackets s)) (each-waiting (packetFit s) packet-fit) (each-moving (packetFit s) packet-fit)
 
   bits-fit : bitsFit s ≡ true
   unfolding bitsFit
-  bits-fit = eq-eqb (s .line .«buffer_contains» .0) (totalBits (λ p. packetBits (s .network) p .0) (waitingItems s)) (b .line .bits)
+  bits-fit = eq-eqb (s .line .«buffer_contains» .0) (totalBits (waitingItems s)) (b .line .bits)
 
   clock-fit : clockFit s ≡ true
   unfolding clockFit
@@ -152,7 +159,7 @@ module _ (s : Simulation) (b : Body s) where
   unfolding pastFit
   past-fit =
       let sent : Packet → Bool = λ p. sinceStart s (p .«sent_time») in
-      let waiting : every sent (waitingItems s) ≡ true = each-waiting sent (λ p o. since (p .«sent_time») (o .past)) in
+      let waiting : every sent (waitingPackets s) ≡ true = each-waiting sent (λ p o. since (p .«sent_time») (o .past)) in
       let moving : every sent (onLinePackets s) ≡ true = each-moving sent (λ p o. since (p .«sent_time») (o .past)) in
       let started : eachSender s (λ i. startedFit s (senderAt s i .state)) ≡ true = each-part _ (λ i o. state-since (s .network .policy) (senderAt s i .state) (o .state)) in
       let starts : eachSender s (λ i. meterStartFit s (meterAt s i .«current_start»)) ≡ true = each-part _ (λ i o. start-since (meterAt s i .«current_start») (o .meter .start)) in
@@ -170,7 +177,7 @@ module _ (s : Simulation) (b : Body s) where
   unfolding recordsFit
   records-fit =
       upTo-intro (s .network .senders) _
-      (λ i h. le-leb (meterAt s i .records + countOf i (waitingItems s) + countOf i (onLinePackets s)) (senderAt s i .«packets_sent») (b .records i h))
+      (λ i h. le-leb (meterAt s i .records + countOf i (waitingPackets s) + countOf i (onLinePackets s)) (senderAt s i .«packets_sent») (b .records i h))
 
   due-fit : dueFit s ≡ true
   unfolding dueFit
@@ -206,8 +213,12 @@ module _ (s : Simulation) (b : Body s) where
   meter-bits-fit : meterBitsFit s ≡ true
   unfolding meterBitsFit
   meter-bits-fit =
-      each-part (λ i. eqb (meterAt s i .total .0) (meterAt s i .records * s .network .bits))
-      (λ i o. eq-eqb (meterAt s i .total .0) (meterAt s i .records * s .network .bits) (o .meter .bits))
+      each-part (λ i. eqb (meterAt s i .total .0) (meterAt s i .records * senderBits (s .network) i .0))
+      (λ i o. eq-eqb (meterAt s i .total .0) (meterAt s i .records * senderBits (s .network) i .0) (o .meter .bits))
+
+  carried-fit : carriedFit s ≡ true
+  unfolding carriedFit
+  carried-fit = each-waits (carries s) (λ x w. eq-eqb (x .bits .0) (packetBits (s .network) (x .packet) .0) (w .carries))
 
   words-fit : wordsFit s ≡ true
   words-fit =
@@ -241,7 +252,7 @@ module _ (s : Simulation) (j : ℕ) (w : Between j s) where
   held-times-fit =
       let b = w .body in
       let sent : Packet → Bool = λ p. held (p .«sent_time») in
-      let waiting : every sent (waitingItems s) ≡ true = each-waiting s b sent (λ p o. past-held s b (p .«sent_time») (o .past)) in
+      let waiting : every sent (waitingPackets s) ≡ true = each-waiting s b sent (λ p o. past-held s b (p .«sent_time») (o .past)) in
       let moving : every sent (onLinePackets s) ≡ true = each-moving s b sent (λ p o. past-held s b (p .«sent_time») (o .past)) in
       let dues : every (λ x. held (x .due)) (onLineItems s) ≡ true = each-transit s b (λ x. held (x .due)) (λ x m. is-true (held (x .due)) (m .held)) in
       let senders : eachSender s (λ i. heldSender (senderAt s i .state)) ≡ true = each-part s b _ (λ i o. state-held s b (s .network .policy) (senderAt s i .state) (o .state)) in
@@ -257,5 +268,5 @@ closed s j w =
     both-i (fit s) (every (dueSoon s) (onLineItems s))
     (fit-intro s (network-fit s b) (rings-fit s b) (packets-fit s b) (bits-fit s b) (clock-fit s b) (held-times-fit s j w) (past-fit s b) (totals-fit s b) (sums-fit s b)
     (records-fit s b) (due-fit s b) (counts-fit s b) (windows-fit s b) (timers-fit s b) (togglers-agree s b) (meters-agree s b) (meter-bits-fit s b) (queue-fit s j w)
-    (words-fit s b))
+    (carried-fit s b) (words-fit s b))
     (due-soon s b)

@@ -15,6 +15,7 @@ use Rattle.rand.specs.Generator.{allZero}
 use Rattle.meters.specs.declared.meter.AverageFlowMeter.{AverageFlowMeter}
 use Rattle.meters.specs.Meter.{isOn, totalFit, sumFit}
 use Rattle.link.specs.declared.packet.Packet.{Packet}
+use Rattle.link.specs.declared.packet.Waiting.{Waiting}
 use Rattle.link.specs.declared.packet.Transit.{Transit}
 use Rattle.link.specs.declared.link.Line.{Line}
 use Rattle.sender.specs.declared.lossy.Policy.{Policy}
@@ -30,7 +31,7 @@ use Rattle.remy.specs.declared.network.RemyNetwork.{RemyNetwork}
 use Rattle.remy.specs.declared.simulation.Next.the-variants as Next
 use Rattle.remy.specs.declared.simulation.Simulation.{Simulation}
 use Rattle.remy.specs.Network.{windowFit, networkStop}
-use Rattle.remy.specs.State.{noPacket, noTransit, senderAt, togglerAt, meterAt, queuedAt, waitingItems, onLinePackets, packetBits, totalBits}
+use Rattle.remy.specs.State.{noWaiting, noTransit, senderAt, togglerAt, meterAt, queuedAt, waitingPackets, onLinePackets, senderBits, packetBits, totalBits}
 use Rattle.remy.specs.Queue.{nextTimeOf}
 use Rattle.remy.specs.Fit.{isTimed, senderOn, sameTime, heldQueued, countOf, rising}
 use Rattle.remy.proofs.Lists.{All}
@@ -65,6 +66,11 @@ pub record PacketOk (n : ℕ) (sent : ℕ → ℕ) (clock : Time) (p : Packet) :
   pub last : p .seq ≤ sent (p .sender)
   pub past : Past clock (p .«sent_time»)
 
+-- a packet that waits carries its sender's bits
+pub record WaitsOk (net : RemyNetwork) (sent : ℕ → ℕ) (clock : Time) (x : Waiting) : Type 0 where
+  pub packet : PacketOk (net .senders) sent clock (x .packet)
+  pub carries : x .bits .0 ≡ packetBits net (x .packet) .0
+
 -- a packet on the line: due from the clock on, not later than the clock and the delay
 pub record TransitOk (n : ℕ) (sent : ℕ → ℕ) (clock : Time) (delay : Float) (x : Transit) : Type 0 where
   pub packet : PacketOk n sent clock (x .packet)
@@ -72,11 +78,11 @@ pub record TransitOk (n : ℕ) (sent : ℕ → ℕ) (clock : Time) (delay : Floa
   pub ahead : NotAfter clock (x .due)
   pub soon : NotAfter (x .due) (spanAfter clock (spanOf delay))
 
-pub record LineOk (net : RemyNetwork) (sent : ℕ → ℕ) (clock : Time) (l : Line) (waiting : List Packet) (moving : List Transit) : Type 0 where
+pub record LineOk (net : RemyNetwork) (sent : ℕ → ℕ) (clock : Time) (l : Line) (waiting : List Waiting) (moving : List Transit) : Type 0 where
   pub waits : Sound waiting (l .waiting)
   pub moves : Sound moving (l .«on_line»)
-  pub bits : l .«buffer_contains» .0 ≡ totalBits (λ p. packetBits net p .0) (items noPacket waiting (l .waiting))
-  pub waiting-ok : All (PacketOk (net .senders) sent clock) (items noPacket waiting (l .waiting))
+  pub bits : l .«buffer_contains» .0 ≡ totalBits (items noWaiting waiting (l .waiting))
+  pub waiting-ok : All (WaitsOk net sent clock) (items noWaiting waiting (l .waiting))
   pub moving-ok : All (TransitOk (net .senders) sent clock (net .delay)) (items noTransit moving (l .«on_line»))
   pub order : rising (items noTransit moving (l .«on_line»)) ≡ true
   pub free : Held (l .«earliest_transmit»)
@@ -110,14 +116,15 @@ pub record MeterOk (size : ℕ) (clock : Time) (m : AverageFlowMeter) : Type 0 w
   pub sum : sumFit (m .records) (m .«rtt_sum») ≡ true
   pub bits : m .total .0 ≡ m .records * size
 
-pub record PartOk (net : RemyNetwork) (clock : Time) (x : LossySender) (t : Toggler) (m : AverageFlowMeter) : Type 0 where
+-- its packets have so many bits
+pub record PartOk (policy : Policy) (size : ℕ) (clock : Time) (x : LossySender) (t : Toggler) (m : AverageFlowMeter) : Type 0 where
   pub sent : x .«packets_sent» ≤ 16777216
-  pub state : StateOk (net .policy) clock (x .state)
+  pub state : StateOk policy clock (x .state)
   pub toggler-on : t .enabled ≡ senderOn (x .state)
   pub toggle : Held (t .«next_toggle»)
   pub toggle-ahead : NotAfter clock (t .«next_toggle»)
   pub meter-on : isOn (m .«current_start») ≡ senderOn (x .state)
-  pub meter : MeterOk (net .bits) clock m
+  pub meter : MeterOk size clock m
   pub words : Words (x .rng)
   pub toggler-words : Words (t .rng)
 
@@ -127,6 +134,10 @@ pub record PartOk (net : RemyNetwork) (clock : Time) (x : LossySender) (t : Togg
 abbrev pub sentOf : Simulation → ℕ → ℕ
 sentOf s i = senderAt s i .«packets_sent»
 
+-- sender i with its toggler and meter
+abbrev pub PartAt : Simulation → ℕ → Type 0
+PartAt s i = PartOk (s .network .policy) (senderBits (s .network) i .0) (s .head .clock) (senderAt s i) (togglerAt s i) (meterAt s i)
+
 -- all but the queue
 pub record Body (s : Simulation) : Type 0 where
   pub full : Full s
@@ -134,13 +145,13 @@ pub record Body (s : Simulation) : Type 0 where
   pub clock : T (le zeroF (s .head .clock .0 .0))
   pub held : Held (s .head .clock)
   pub line : LineOk (s .network) (sentOf s) (s .head .clock) (s .line) (s .waiting) (s .«on_line»)
-  pub parts : (i : ℕ) → i < s .network .senders → PartOk (s .network) (s .head .clock) (senderAt s i) (togglerAt s i) (meterAt s i)
-  pub records : (i : ℕ) → i < s .network .senders → meterAt s i .records + countOf i (waitingItems s) + countOf i (onLinePackets s) ≤ senderAt s i .«packets_sent»
+  pub parts : (i : ℕ) → i < s .network .senders → PartAt s i
+  pub records : (i : ℕ) → i < s .network .senders → meterAt s i .records + countOf i (waitingPackets s) + countOf i (onLinePackets s) ≤ senderAt s i .«packets_sent»
 
 -- a packet that neither waits nor is on the line, and is not counted: its sender has room for it
 pub record Loose (s : Simulation) (p : Packet) : Type 0 where
   pub packet : PacketOk (s .network .senders) (sentOf s) (s .head .clock) p
-  pub room : meterAt s (p .sender) .records + countOf (p .sender) (waitingItems s) + countOf (p .sender) (onLinePackets s) + 1 ≤ senderAt s (p .sender) .«packets_sent»
+  pub room : meterAt s (p .sender) .records + countOf (p .sender) (waitingPackets s) + countOf (p .sender) (onLinePackets s) + 1 ≤ senderAt s (p .sender) .«packets_sent»
 
 -- place k of the queue: the part's own next time, held, not below the clock
 pub record PlaceOk (s : Simulation) (k : ℕ) : Type 0 where

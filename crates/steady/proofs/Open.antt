@@ -29,10 +29,10 @@ use Rattle.link.proofs.Items.{items-empty, items-pop}
 use Rattle.remy.specs.declared.simulation.Next.{Next}
 use Rattle.remy.specs.declared.simulation.Next.the-variants as Next
 use Rattle.remy.specs.declared.simulation.Simulation.{Simulation}
-use Rattle.remy.specs.Network.{between, networkStop}
-use Rattle.remy.specs.State.{Role, link, sender, toggler, roleOf, noTransit, senderAt, togglerAt, meterAt, queuedAt, frontOf, waitingItems, onLineItems, onLinePackets, packetBits, totalBits}
+use Rattle.remy.specs.Network.{upTo, between, networkStop}
+use Rattle.remy.specs.State.{Role, link, sender, toggler, roleOf, noTransit, senderAt, togglerAt, meterAt, queuedAt, frontOf, waitingItems, waitingPackets, onLineItems, onLinePackets, senderBits, totalBits}
 use Rattle.remy.specs.Queue.{ownTime, nextTimeOf, partOf}
-use Rattle.remy.specs.Fit.{every, upTo, eachSender, packetFit, held, heldIfAny, isIdle, heldSender, heldQueued, isNext, sinceStart, startedFit, meterStartFit, countOf, rising, ackFit, heldWindowFit, isTimed, timerFit, senderOn, sameTime, nextFit, networkFit, packetsFit, bitsFit, clockFit, totalsFit, sumsFit, recordsFit, dueFit, countsFit, windowsFit, timersFit, togglersAgree, metersAgree, meterBitsFit, queueFit, fit}
+use Rattle.remy.specs.Fit.{every, eachSender, packetFit, held, heldIfAny, isIdle, heldSender, heldQueued, isNext, sinceStart, startedFit, meterStartFit, countOf, rising, ackFit, heldWindowFit, isTimed, timerFit, senderOn, sameTime, nextFit, networkFit, packetsFit, bitsFit, clockFit, totalsFit, sumsFit, recordsFit, dueFit, countsFit, windowsFit, timersFit, togglersAgree, metersAgree, meterBitsFit, queueFit, carries, carriedFit, fit}
 use Rattle.remy.proofs.Facts.{both-l, both-r, holds, range-low, range-high, between-low, between-high, upTo-at, FitState, fit-state, FitWords, words-apart}
 use Rattle.remy.proofs.Networks.{fit-network, few-senders}
 use Rattle.remy.proofs.Steps.{cond-elim}
@@ -41,7 +41,7 @@ use Rattle.remy.proofs.Lists.{All, all-unmapped}
 use Rattle.remy.proofs.Front.{rings}
 use Rattle.remy.specs.HeldTimes.{Full}
 use Rattle.steady.specs.Steady.{dueSoon, steady}
-use Rattle.steady.proofs.Facts.{NotAfter, Held, Past, PastIfAny, PacketOk, TransitOk, LineOk, TimerIfAny, StateOk, MeterOk, PartOk, sentOf, Body, QueueBut, Between}
+use Rattle.steady.proofs.Facts.{NotAfter, Held, Past, PastIfAny, PacketOk, WaitsOk, TransitOk, LineOk, TimerIfAny, StateOk, MeterOk, PartAt, sentOf, Body, QueueBut, Between}
 use Rattle.steady.proofs.Clauses.{HeldTimes, held-times, PastTimes, past-times}
 use Rattle.steady.proofs.Lists.{all-with, every-all}
 use Rattle.steady.proofs.Ahead.{HeldIfAny, FromIfAny, ahead-now, ahead-latest, queued-ahead, from-same, from-right}
@@ -236,7 +236,7 @@ module _ (s : Simulation) (j : ℕ) (fits : FitState s) (full : Full s) (next : 
     unfolding ownTime
     toggle-ahead = role-ahead (toggler i) h
 
-    meter-ok : MeterOk (s .network .bits) (s .head .clock) (meterAt s i)
+    meter-ok : MeterOk (senderBits (s .network) i .0) (s .head .clock) (meterAt s i)
     unfolding totalsFit sumsFit meterBitsFit
     meter-ok =
         record {
@@ -244,11 +244,11 @@ module _ (s : Simulation) (j : ℕ) (fits : FitState s) (full : Full s) (next : 
           total = at (λ k. totalFit (meterAt s k .«total_time»)) (fits .totals);
           sum = at (λ k. sumFit (meterAt s k .records) (meterAt s k .«rtt_sum»)) (fits .sums);
           bits =
-              eqb-true (meterAt s i .total .0) (meterAt s i .records * s .network .bits)
-              (at (λ k. eqb (meterAt s k .total .0) (meterAt s k .records * s .network .bits)) (fits .meter-bits));
+              eqb-true (meterAt s i .total .0) (meterAt s i .records * senderBits (s .network) i .0)
+              (at (λ k. eqb (meterAt s k .total .0) (meterAt s k .records * senderBits (s .network) k .0)) (fits .meter-bits));
         }
 
-    pub part-ok : PartOk (s .network) (s .head .clock) (senderAt s i) (togglerAt s i) (meterAt s i)
+    pub part-ok : PartAt s i
     unfolding countsFit windowsFit timersFit togglersAgree metersAgree
     part-ok =
         let few-sent = leb (senderAt s i .«packets_sent») 16777216 in
@@ -278,30 +278,34 @@ module _ (s : Simulation) (j : ℕ) (fits : FitState s) (full : Full s) (next : 
           toggler-words = not-true (allZero (togglerAt s i .rng)) (at (λ k. not (allZero (togglerAt s k .rng))) (words .togglers));
         }
 
-    records-ok : meterAt s i .records + countOf i (waitingItems s) + countOf i (onLinePackets s) ≤ senderAt s i .«packets_sent»
+    records-ok : meterAt s i .records + countOf i (waitingPackets s) + countOf i (onLinePackets s) ≤ senderAt s i .«packets_sent»
     unfolding recordsFit
     records-ok =
-        leb-true (meterAt s i .records + countOf i (waitingItems s) + countOf i (onLinePackets s)) (senderAt s i .«packets_sent»)
-        (at (λ k. leb (meterAt s k .records + countOf k (waitingItems s) + countOf k (onLinePackets s)) (senderAt s k .«packets_sent»)) (fits .records))
+        leb-true (meterAt s i .records + countOf i (waitingPackets s) + countOf i (onLinePackets s)) (senderAt s i .«packets_sent»)
+        (at (λ k. leb (meterAt s k .records + countOf k (waitingPackets s) + countOf k (onLinePackets s)) (senderAt s k .«packets_sent»)) (fits .records))
 
   -- ---- the whole state, where it is steady
 
   module _ (soon : every (dueSoon s) (onLineItems s) ≡ true) where
     line-ok : LineOk (s .network) (sentOf s) (s .head .clock) (s .line) (s .waiting) (s .«on_line»)
-    unfolding packetsFit bitsFit
+    unfolding packetsFit bitsFit carriedFit
     line-ok =
         let clock = s .head .clock in
         let xs = onLineItems s in
         let Good : Packet → Type 0 = PacketOk (s .network .senders) (sentOf s) clock in
-        let packets = every (packetFit s) (waitingItems s) in
+        let waiting = waitingItems s in
+        let packets = every (packetFit s) (waitingPackets s) in
         let moving-packets = every (packetFit s) (onLinePackets s) in
         let Due : Transit → Type 0 = λ x. (held (x .due) ≡ true) × NotAfter clock (x .due) in
         let Sent : Transit → Type 0 = λ x. Good (x .packet) × (dueSoon s x ≡ true) in
         record {
           waits = rings s fits full .0;
           moves = rings s fits full .1;
-          bits = eqb-true (s .line .«buffer_contains» .0) (totalBits (λ p. packetBits (s .network) p .0) (waitingItems s)) (fits .bits);
-          waiting-ok = packets-of (waitingItems s) (both-l packets moving-packets (fits .packets)) (pasts .waiting);
+          bits = eqb-true (s .line .«buffer_contains» .0) (totalBits waiting) (fits .bits);
+          waiting-ok =
+              all-with (λ x. Good (x .packet)) (λ x. carries s x ≡ true) (WaitsOk (s .network) (sentOf s) clock) (λ x p c. record { packet = p; carries = eqb-true _ _ c }) waiting
+              (all-unmapped Good (λ x. x .packet) waiting (packets-of (waitingPackets s) (both-l packets moving-packets (fits .packets)) (pasts .waiting)))
+              (every-all (carries s) waiting (fits .carried));
           moving-ok =
               all-with Due Sent (TransitOk (s .network .senders) (sentOf s) clock (s .network .delay))
               (λ x d p. record { packet = p .0; held = holds (held (x .due)) (d .0); ahead = d .1; soon = holds (dueSoon s x) (p .1) }) xs

@@ -25,14 +25,14 @@ use Rattle.sender.specs.Sender.{withState, tickTimer, tickSend, enabledOf, disa
 use Rattle.toggler.specs.Toggler.{nextToggle, toggleDraw, toggleOf}
 use Rattle.remy.specs.declared.simulation.Simulation.{Simulation}
 use Rattle.remy.specs.Network.{timesFit}
-use Rattle.remy.specs.State.{noToggler, noMeter, senderAt, togglerAt, meterAt, waitingItems, onLinePackets, packetBits, withSender, withToggler, withMeter}
+use Rattle.remy.specs.State.{noToggler, noMeter, senderAt, togglerAt, meterAt, waitingPackets, onLinePackets, senderBits, packetBits, withSender, withToggler, withMeter}
 use Rattle.remy.specs.Fit.{senderOn, countOf}
 use Rattle.remy.specs.Tick.{enabledSender, heardMeter, switchedSender}
 use Rattle.remy.proofs.Facts.{both-l, both-r}
 use Rattle.remy.proofs.Networks.{FitNetwork, fit-network, few-bits, far}
 use Rattle.remy.proofs.Steps.{cond-elim}
 use Rattle.remy.proofs.Fresh.{redraw-within}
-use Rattle.steady.proofs.Facts.{NotAfter, Held, Words, EnabledOk, StateOk, PartOk, Body, Loose}
+use Rattle.steady.proofs.Facts.{NotAfter, Held, Words, EnabledOk, StateOk, PartAt, Body, Loose}
 use Rattle.steady.proofs.Stores.{unset, sender-set, toggler-set, meter-set, store}
 use Rattle.steady.proofs.Times.{Early, now-past, new-held, new-ahead}
 use Rattle.steady.proofs.Senders.{first-fit, timer-ok, SentOk, sent-ok, acked-ok}
@@ -69,7 +69,7 @@ module _ (s : Simulation) (b : Body s) (early : Early (s .head .clock)) where
   net = fit-network (s .network) (b .network)
 
   module _ (i : ℕ) (h : i < s .network .senders) where
-    part : PartOk (s .network) (s .head .clock) (senderAt s i) (togglerAt s i) (meterAt s i)
+    part : PartAt s i
     part = b .parts i h
 
     -- another enabled state of an enabled sender, and no fewer sent
@@ -135,14 +135,16 @@ module _ (s : Simulation) (b : Body s) (early : Early (s .head .clock)) where
     unchanged =
         store s b i h (sender-set s b i h (senderAt s i)) (unset noToggler (s .togglers) i) (unset noMeter (s .meters) i) (le-of-eq refl) part (b .records i h)
 
-    module _ (p : Packet) (few : p .seq ≤ 16777216)
-        (room : meterAt s i .records + countOf i (waitingItems s) + countOf i (onLinePackets s) + 1 ≤ senderAt s i .«packets_sent») where
+    module _ (p : Packet) (mine : p .sender ≡ i) (few : p .seq ≤ 16777216)
+        (room : meterAt s i .records + countOf i (waitingPackets s) + countOf i (onLinePackets s) + 1 ≤ senderAt s i .«packets_sent») where
       -- where it is counted
       counted : (e : Enabled) → senderAt s i .state ≡ State.Enabled e
           → Body (heardMeter (withSender s i (withState (senderAt s i) (State.Enabled (acked (s .network .policy) e p)))) i p Heard.Counted)
       counted e on =
           let m = recordedOf (meterAt s i) (packetBits (s .network) p) (since (s .head .clock) (p .«sent_time»)) (s .head .clock) .meter in
-          let k : Recorded (s .network .bits) (s .head .clock) (meterAt s i) m = recorded-ok (s .network .bits) (s .head .clock) (meterAt s i) (since (s .head .clock) (p .«sent_time»)) (part .meter) in
+          let size = senderBits (s .network) i .0 in
+          let k : Recorded size (s .head .clock) (meterAt s i) m =
+          rw mine (recorded-ok size (s .head .clock) (meterAt s i) (since (s .head .clock) (p .«sent_time»)) (part .meter)) in
           store s b i h (sender-set s b i h (withState (senderAt s i) (State.Enabled (acked (s .network .policy) e p)))) (unset noToggler (s .togglers) i) (meter-set s b i h m) (le-of-eq refl)
           (record {
             sent = part .sent;
@@ -173,16 +175,16 @@ module _ (s : Simulation) (b : Body s) (early : Early (s .head .clock)) where
       let own = l .packet .own in
       let last = l .packet .last in
       let most = b .parts (p .sender) own .sent in
-      returned (p .sender) own p (omega (arith, last, most)) (l .room) (senderAt s (p .sender) .state) refl
+      returned (p .sender) own p refl (omega (arith, last, most)) (l .room) (senderAt s (p .sender) .state) refl
 
   -- ---- a toggle
   module _ (i : ℕ) (h : i < s .network .senders) (t : Toggler) (changed : Changed (s .head .clock) (togglerAt s i) t) where
-    meter-now : (on : Bool) → t .enabled ≡ on → Switched (s .network .bits) (s .head .clock) (meterAt s i) (switchedOf (meterAt s i) on (s .head .clock) .meter)
+    meter-now : (on : Bool) → t .enabled ≡ on → Switched (senderBits (s .network) i .0) (s .head .clock) (meterAt s i) (switchedOf (meterAt s i) on (s .head .clock) .meter)
     meter-now on e =
         let k = b .parts i h in
         let room = b .records i h in
         let most = k .sent in
-        switched-ok (s .network .bits) (s .head .clock) (meterAt s i) on early (few-bits net) (omega (arith, room, most))
+        switched-ok (senderBits (s .network) i .0) (s .head .clock) (meterAt s i) on early (few-bits net i h) (omega (arith, room, most))
         (sym e ∙ changed .other ∙ ap not (k .toggler-on ∙ sym (k .meter-on))) (k .meter)
 
     -- the sender, on or off as its toggler is

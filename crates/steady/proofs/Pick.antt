@@ -34,7 +34,7 @@ use Rattle.link.proofs.Items.{items-empty, items-pop}
 use Rattle.toggler.proofs.Least.{picked-nothing, picked-there, picked-inside, picked-le}
 use Rattle.remy.specs.declared.simulation.Next.the-variants as Next
 use Rattle.remy.specs.declared.simulation.Simulation.{Simulation}
-use Rattle.remy.specs.State.{Role, link, sender, toggler, nobody, roleOf, noPacket, noTransit, senderAt, togglerAt, meterAt, firstOf, frontOf, queuedAt, waitingItems, onLineItems, withHead, withQueue}
+use Rattle.remy.specs.State.{Role, link, sender, toggler, nobody, roleOf, noWaiting, noTransit, senderAt, togglerAt, meterAt, firstOf, frontOf, queuedAt, waitingItems, onLineItems, senderBits, withHead, withQueue}
 use Rattle.remy.specs.Queue.{ownTime, nextTimeOf, partOf, headOf, removed, picked}
 use Rattle.remy.specs.Fit.{heldQueued, sameTime, rising}
 use Rattle.remy.proofs.Facts.{both-l, both-r, holds}
@@ -42,7 +42,7 @@ use Rattle.remy.proofs.Networks.{fit-network, few-senders, delay-within}
 use Rattle.remy.proofs.Kept.{at-set}
 use Rattle.remy.proofs.Roles.{Real, role-at, role-of, part-inside}
 use Rattle.remy.proofs.Lists.{All, all-map}
-use Rattle.steady.proofs.Facts.{NotAfter, Held, Past, PastIfAny, PacketOk, TransitOk, TimerIfAny, StateOk, MeterOk, Body, sentOf, QueueOk, Between}
+use Rattle.steady.proofs.Facts.{NotAfter, Held, Past, PastIfAny, PacketOk, WaitsOk, TransitOk, TimerIfAny, StateOk, MeterOk, Body, sentOf, QueueOk, Between}
 use Rattle.remy.proofs.Full.{full-queue}
 use Rattle.steady.proofs.Ahead.{FromIfAny, Ahead, held-known, queued-ahead, ahead-queued, same-self, same-trans, from-same, from-left, from-right, same-earliest}
 use Rattle.steady.proofs.Requeue.{front-ok, transmit-ahead, deliver-ahead, send-ahead, timer-ahead}
@@ -194,7 +194,7 @@ module _ (s : Simulation) (b : Body s) (t : Time) (ahead : Ahead (s .head .clock
   moved-body =
       let net = s .network in
       let c = s .head .clock in
-      let waiting = PacketOk (net .senders) (sentOf s) in
+      let waiting = WaitsOk net (sentOf s) in
       record {
         full = full-queue s (record { clock = t; next = Next.Part j }) (set (s .queue) j noQueued) (length-set (s .queue) j noQueued ∙ b .full .queue) (b .full);
         network = b .network;
@@ -205,7 +205,8 @@ module _ (s : Simulation) (b : Body s) (t : Time) (ahead : Ahead (s .head .clock
               waits = b .line .waits;
               moves = b .line .moves;
               bits = b .line .bits;
-              waiting-ok = all-map (waiting c) (waiting t) (packet-later c t (ahead .from) (net .senders) (sentOf s)) (waitingItems s) (b .line .waiting-ok);
+              waiting-ok = all-map (waiting c) (waiting t)
+                  (λ x w. record { packet = packet-later c t (ahead .from) (net .senders) (sentOf s) (x .packet) (w .packet); carries = w .carries }) (waitingItems s) (b .line .waiting-ok);
               moving-ok =
                   transits-later c t (ahead .from) (net .senders) (sentOf s) (net .delay) due-later (onLineItems s) (b .line .order) first-from (b .line .moving-ok);
               order = b .line .order;
@@ -222,7 +223,7 @@ module _ (s : Simulation) (b : Body s) (t : Time) (ahead : Ahead (s .head .clock
               toggle = ok .toggle;
               toggle-ahead = unfold ownTime in least (toggler i) h;
               meter-on = ok .meter-on;
-              meter = meter-later c t (ahead .from) (net .bits) (meterAt s i) (ok .meter);
+              meter = meter-later c t (ahead .from) (senderBits net i .0) (meterAt s i) (ok .meter);
               words = ok .words;
               toggler-words = ok .toggler-words;
             };
@@ -323,9 +324,8 @@ some-sent s b = by (eqb (s .line .waiting .count) 0) (eqb (s .line .«on_line» 
         omega arith
     by false z e f h =
         let some : s .line .waiting .count ≡ 0 → ⊥ = eqb-false (s .line .waiting .count) 0 e in
-        let Ok : Packet → Type 0 = PacketOk (s .network .senders) (sentOf s) (s .head .clock) in
-        let ok = subst (All Ok) (items-pop (b .line .waits) noPacket (omega arith)) (b .line .waiting-ok) in
-        let own : firstOf s .sender < s .network .senders = ok .0 .own in
+        let ok = subst (All (WaitsOk (s .network) (sentOf s) (s .head .clock))) (items-pop (b .line .waits) noWaiting (omega arith)) (b .line .waiting-ok) in
+        let own : firstOf s .packet .sender < s .network .senders = ok .0 .packet .own in
         omega arith
 
 pub some-senders : (j : ℕ) (s : Simulation) → Between j s → 1 ≤ s .network .senders

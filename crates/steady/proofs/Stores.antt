@@ -11,6 +11,7 @@ use lib.Ieee.{Float}
 use Rattle.quantities.specs.declared.time.Time.{Time}
 use Rattle.meters.specs.declared.meter.AverageFlowMeter.{AverageFlowMeter}
 use Rattle.link.specs.declared.packet.Packet.{Packet}
+use Rattle.link.specs.declared.packet.Waiting.{Waiting}
 use Rattle.link.specs.declared.packet.Transit.{Transit}
 use Rattle.link.specs.declared.link.Line.{Line}
 use Rattle.sender.specs.declared.lossy.LossySender.{LossySender}
@@ -18,10 +19,10 @@ use Rattle.toggler.specs.declared.toggler.Toggler.{Toggler}
 use Rattle.link.specs.Ring.{items}
 use Rattle.remy.specs.declared.network.RemyNetwork.{RemyNetwork}
 use Rattle.remy.specs.declared.simulation.Simulation.{Simulation}
-use Rattle.remy.specs.State.{noPacket, noTransit, noSender, noToggler, noMeter, senderAt, waitingItems, onLinePackets, withSenders, withTogglers, withMeters}
+use Rattle.remy.specs.State.{noWaiting, noTransit, noSender, noToggler, noMeter, senderAt, waitingPackets, onLinePackets, senderBits, withSenders, withTogglers, withMeters}
 use Rattle.remy.specs.Fit.{countOf}
 use Rattle.remy.proofs.Networks.{fit-network, few-senders}
-use Rattle.steady.proofs.Facts.{PacketOk, TransitOk, LineOk, PartOk, sentOf, Body}
+use Rattle.steady.proofs.Facts.{PacketOk, WaitsOk, TransitOk, LineOk, PartOk, sentOf, Body}
 use Rattle.remy.proofs.Lists.{all-map}
 
 -- ---- more packets sent
@@ -33,15 +34,15 @@ module _ (n : ℕ) (sent sent' : ℕ → ℕ) (more : (i : ℕ) → sent i ≤ s
   transit-more : (delay : Float) (x : Transit) → TransitOk n sent clock delay x → TransitOk n sent' clock delay x
   transit-more delay x k = record { packet = packet-more (x .packet) (k .packet); held = k .held; ahead = k .ahead; soon = k .soon }
 
-line-more : (net : RemyNetwork) (sent sent' : ℕ → ℕ) → ((i : ℕ) → sent i ≤ sent' i) → (clock : Time) (l : Line) (waiting : List Packet) (moving : List Transit)
+line-more : (net : RemyNetwork) (sent sent' : ℕ → ℕ) → ((i : ℕ) → sent i ≤ sent' i) → (clock : Time) (l : Line) (waiting : List Waiting) (moving : List Transit)
     → LineOk net sent clock l waiting moving → LineOk net sent' clock l waiting moving
 line-more net sent sent' more clock l waiting moving k =
     record {
       waits = k .waits;
       moves = k .moves;
       bits = k .bits;
-      waiting-ok = all-map (PacketOk (net .senders) sent clock) (PacketOk (net .senders) sent' clock) (packet-more (net .senders) sent sent' more clock)
-          (items noPacket waiting (l .waiting)) (k .waiting-ok);
+      waiting-ok = all-map (WaitsOk net sent clock) (WaitsOk net sent' clock)
+          (λ x w. record { packet = packet-more (net .senders) sent sent' more clock (x .packet) (w .packet); carries = w .carries }) (items noWaiting waiting (l .waiting)) (k .waiting-ok);
       moving-ok = all-map (TransitOk (net .senders) sent clock (net .delay)) (TransitOk (net .senders) sent' clock (net .delay))
           (transit-more (net .senders) sent sent' more clock (net .delay)) (items noTransit moving (l .«on_line»)) (k .moving-ok);
       order = k .order;
@@ -85,14 +86,15 @@ module _ (s : Simulation) (b : Body s) (i : ℕ) (h : i < s .network .senders) w
         subst (λ (k : ℕ). sentOf s k ≤ getD xs k noSender .«packets_sent») (sym same) (le-trans more (le-of-eq (ap (λ y. y .«packets_sent») (sym (new-sender .at)))))
     sent-more j (no other) = le-of-eq (ap (λ y. y .«packets_sent») (sym (new-sender .others j other)))
 
-    module _ (part : PartOk (s .network) (s .head .clock) x t m)
-        (room : m .records + countOf i (waitingItems s) + countOf i (onLinePackets s) ≤ x .«packets_sent») where
-      parts : (j : ℕ) → j < s .network .senders → Dec (j ≡ i) → PartOk (s .network) (s .head .clock) (getD xs j noSender) (getD ts j noToggler) (getD ms j noMeter)
+    module _ (part : PartOk (s .network .policy) (senderBits (s .network) i .0) (s .head .clock) x t m)
+        (room : m .records + countOf i (waitingPackets s) + countOf i (onLinePackets s) ≤ x .«packets_sent») where
+      parts : (j : ℕ) → j < s .network .senders → Dec (j ≡ i)
+          → PartOk (s .network .policy) (senderBits (s .network) j .0) (s .head .clock) (getD xs j noSender) (getD ts j noToggler) (getD ms j noMeter)
       parts j g (yes same) = rw (same, new-sender .at, new-toggler .at, new-meter .at) part
       parts j g (no other) = rw (new-sender .others j other, new-toggler .others j other, new-meter .others j other) (b .parts j g)
 
       records : (j : ℕ) → j < s .network .senders → Dec (j ≡ i)
-          → getD ms j noMeter .records + countOf j (waitingItems s) + countOf j (onLinePackets s) ≤ getD xs j noSender .«packets_sent»
+          → getD ms j noMeter .records + countOf j (waitingPackets s) + countOf j (onLinePackets s) ≤ getD xs j noSender .«packets_sent»
       records j g (yes same) = rw (same, new-sender .at, new-meter .at) room
       records j g (no other) = rw (new-sender .others j other, new-meter .others j other) (b .records j g)
 

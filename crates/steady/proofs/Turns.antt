@@ -39,7 +39,7 @@ use Rattle.remy.specs.declared.simulation.Name.the-variants as Name
 use Rattle.remy.specs.declared.simulation.TickRecord.{TickRecord}
 use Rattle.remy.specs.State.{Role, link, sender, toggler, nobody, roleOf, senderPart, togglerPart, senderAt, togglerAt, meterAt, firstOf, frontOf, packetBits, withLine, withWaiting, withSender, withToggler, withMeter}
 use Rattle.remy.specs.Queue.{ownTime, partOf, requeue, picked}
-use Rattle.remy.specs.Tick.{named, recordAt, arrives, returns, switches, Acted, stopped, linkWith, linkActs, enabledSender, timerWith, sendWith, senderWith, senderActs, togglerActs, actsOf, Outcome, moves, stops, arriveWith, heardMeter, switchedSender, deliver, pickAgain, outcomeWith, outcomeOf}
+use Rattle.remy.specs.Tick.{named, recordAt, arrives, returns, switches, Acted, stopped, linkWith, linkActs, enabledSender, timerWith, sendWith, senderWith, senderActs, togglerActs, actsOf, Outcome, moves, stops, waitsWith, arriveWith, heardMeter, switchedSender, deliver, pickAgain, outcomeWith, outcomeOf}
 use Rattle.remy.proofs.Steps.{cond-elim}
 use Rattle.remy.proofs.Outcomes.{OnMoves, on-stopped}
 use Rattle.remy.proofs.Roles.{Real, role-at}
@@ -93,7 +93,7 @@ loose-requeued s role p l = record { packet = l .packet; room = l .room }
 module _ (s : Simulation) (b : Body s) (early : Early (s .head .clock)) where
   transmit-elim : (F : Transmitted → Type 0) → F (notStarted (s .line) 0) → ((m : ℕ) → eqb m 0 ≡ false → F (notStarted (s .line) m))
       → (Body (started s) → ((p : Packet) → Loose s p → Loose (started s) p) → F (record { number = 0; begun = Begun.Starts (begun s); line = started s .line }))
-      → F (tryTransmit (s .line) (s .head .clock) (firstOf s) (spanOf (s .network .delay)) (rateOf (s .network .rate)) (packetBits (s .network) (firstOf s)))
+      → F (tryTransmit (s .line) (s .head .clock) (firstOf s) (spanOf (s .network .delay)) (rateOf (s .network .rate)))
   unfolding tryTransmit
   transmit-elim F none stop go =
       let l = s .line in
@@ -142,7 +142,7 @@ module _ (s : Simulation) (b : Between 0 s) (early : Early (s .head .clock)) whe
   stays : OnMoves LandedBy
       (outcomeWith link
       (linkWith s (record { left = Left.Nobody; line = s .line })
-      (tryTransmit (s .line) (s .head .clock) (firstOf s) (spanOf (s .network .delay)) (rateOf (s .network .rate)) (packetBits (s .network) (firstOf s)))))
+      (tryTransmit (s .line) (s .head .clock) (firstOf s) (spanOf (s .network .delay)) (rateOf (s .network .rate)))))
   stays =
       transmit-elim s (b .body) early (λ (t : Transmitted). OnMoves LandedBy (outcomeWith link (linkWith s (record { left = Left.Nobody; line = s .line }) t)))
       (land (requeue s link) (link-ready s refl refl refl refl refl (b .body)))
@@ -160,7 +160,7 @@ module _ (s : Simulation) (b : Between 0 s) (early : Early (s .head .clock)) whe
     loses : OnMoves LandedBy
         (outcomeWith link
         (linkWith s (record { left = Left.Lost (frontOf s .packet); line = departed (s .line) })
-        (tryTransmit (departed (s .line)) (s .head .clock) (firstOf s) (spanOf (s .network .delay)) (rateOf (s .network .rate)) (packetBits (s .network) (firstOf s)))))
+        (tryTransmit (departed (s .line)) (s .head .clock) (firstOf s) (spanOf (s .network .delay)) (rateOf (s .network .rate)))))
     unfolding gone
     loses =
         transmit-elim gone gone-body early (λ (t : Transmitted). OnMoves LandedBy (outcomeWith link (linkWith s (record { left = Left.Lost (frontOf s .packet); line = departed (s .line) }) t)))
@@ -171,7 +171,7 @@ module _ (s : Simulation) (b : Between 0 s) (early : Early (s .head .clock)) whe
     comes : OnMoves LandedBy
         (outcomeWith link
         (linkWith s (record { left = Left.Out (frontOf s .packet); line = departed (s .line) })
-        (tryTransmit (departed (s .line)) (s .head .clock) (firstOf s) (spanOf (s .network .delay)) (rateOf (s .network .rate)) (packetBits (s .network) (firstOf s)))))
+        (tryTransmit (departed (s .line)) (s .head .clock) (firstOf s) (spanOf (s .network .delay)) (rateOf (s .network .rate)))))
     unfolding gone
     comes =
         let p = frontOf s .packet in
@@ -182,7 +182,7 @@ module _ (s : Simulation) (b : Between 0 s) (early : Early (s .head .clock)) whe
         (refused (Left.Out p) (departed (s .line)))
         (λ body stay.
         let k = link-ready (started gone) refl refl refl refl refl body in
-        lands (deliver (recordAt s link Mark.None (named p) (named (firstOf s))) (requeue (started gone) link) (returns p)) (back (requeue (started gone) link) (k .body) (k .queue) (unfold requeue in early) (recordAt s link Mark.None (named p) (named (firstOf s))) p (loose-requeued (started gone) link p (stay p loose))))
+        lands (deliver (recordAt s link Mark.None (named p) (named (firstOf s .packet))) (requeue (started gone) link) (returns p)) (back (requeue (started gone) link) (k .body) (k .queue) (unfold requeue in early) (recordAt s link Mark.None (named p) (named (firstOf s .packet))) p (loose-requeued (started gone) link p (stay p loose))))
 
   link-lands : OnMoves LandedBy (outcomeOf s link)
   unfolding outcomeOf actsOf linkActs tryDeliver
@@ -190,7 +190,7 @@ module _ (s : Simulation) (b : Between 0 s) (early : Early (s .head .clock)) whe
       let lost : Delivered = record { left = Left.Lost (frontOf s .packet); line = departed (s .line) } in
       let out : Delivered = record { left = Left.Out (frontOf s .packet); line = departed (s .line) } in
       let G : Delivered → Type 0 = λ d. OnMoves LandedBy
-      (outcomeWith link (linkWith s d (tryTransmit (d .line) (s .head .clock) (firstOf s) (spanOf (s .network .delay)) (rateOf (s .network .rate)) (packetBits (s .network) (firstOf s))))) in
+      (outcomeWith link (linkWith s d (tryTransmit (d .line) (s .head .clock) (firstOf s) (spanOf (s .network .delay)) (rateOf (s .network .rate))))) in
       cond-elim G (isDue (s .line) (s .head .clock) (frontOf s)) (cond (lt (unitOf (s .line .rng) .value) (s .network .loss)) lost out) (record { left = Left.Nobody; line = s .line })
       (λ e. cond-elim G (lt (unitOf (s .line .rng) .value) (s .network .loss)) lost out (λ h. loses e) (λ h. comes e))
       (λ e. stays)
@@ -217,7 +217,7 @@ module _ (s : Simulation) (i : ℕ) (h : i < s .network .senders) (b : Between (
       (λ fits. cond-elim F (leb places (st .line .waiting .count)) full taken
       (λ none. tt)
       (λ room.
-      let m = withLine (withWaiting st (set (st .waiting) (placeAfter (st .line .waiting)) p)) (admitted (st .line) (packetBits (st .network) p)) in
+      let m = withLine (withWaiting st (set (st .waiting) (placeAfter (st .line .waiting)) (waitsWith st p))) (admitted (st .line) (packetBits (st .network) p)) in
       ready m link (arrive-body st (k .body) p l room) tt (line-changes st m refl refl refl refl refl (but st 0 (k .queue))) (k .some)))
       (λ over. ready st link (k .body) tt (but st 0 (k .queue)) (k .some))
 

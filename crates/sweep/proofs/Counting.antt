@@ -10,15 +10,15 @@ use Rattle.remy.specs.declared.simulation.Simulation.{Simulation}
 use Rattle.remy.specs.Build.{buildOf}
 use Rattle.remy.specs.Tick.{tickOf}
 use Rattle.remy.specs.Run.{runOf}
-use Rattle.description.specs.declared.ReadDescription.{ReadDescription}
-use Rattle.description.specs.declared.ReadDescription.the-variants.{Given, Malformed}
+use Rattle.description.specs.declared.Description.{Description}
+use Rattle.description.specs.Text.{ReadAs, given, malformed, descriptionOf, answerOf}
 use Rattle.printer.specs.declared.Put.{Put}
 use Rattle.printer.specs.declared.Put.the-variants as Put
 use Rattle.printer.specs.Printing.{refusedText, recordText, stopText, written}
 use Rattle.report.specs.declared.run.Stage.the-variants as Stage
 use Rattle.lines.specs.Lines.{recordLine, recordLines, stopLine, endLines, runLines}
 use Rattle.report.specs.Network.{networkOf}
-use Rattle.report.specs.Report.{leftAt, leftOf, reportOf, ForText}
+use Rattle.report.specs.Report.{leftAt, leftOf, begunOf, answeredOf, reportOf, ForText}
 use Rattle.filling.specs.Filling.{Puts, puts, noneLeft, AllPut}
 use Rattle.sweep.specs.Sweep.{putCount, CountPut}
 
@@ -36,11 +36,11 @@ counted : (p : Puts) (r : Put) (after : List ℕ) → AllPut p r after → Count
 counted p r after w = record { answer = ap numberOf (w .answer) ∙ number-cond (noneLeft (p .rest)) (p .at); bytes = w .bytes }
 
 -- what print_run says of its answer, said of the answer's number
-pub counted-text : (text : List ℕ) (f : ReadDescription → Puts) (r x : Put) (after : List ℕ) → r ≡ x → ForText text (λ d. AllPut (f d) r after)
+pub counted-text : (text : List ℕ) (f : ReadAs → Puts) (r x : Put) (after : List ℕ) → r ≡ x → ForText text (λ d. AllPut (f d) r after)
     → ForText text (λ d. CountPut (f d) (numberOf x) after)
 counted-text text f r x after e w = record {
-  given = λ d t i. counted (f (Given d)) x after (subst (λ (y : Put). AllPut (f (Given d)) y after) e (w .given d t i));
-  other = λ no. counted (f Malformed) x after (subst (λ (y : Put). AllPut (f Malformed) y after) e (w .other no));
+  given = λ u t i. counted (f (given u)) x after (subst (λ (y : Put). AllPut (f (given u)) y after) e (w .given u t i));
+  other = λ none. counted (f malformed) x after (subst (λ (y : Put). AllPut (f malformed) y after) e (w .other none));
 }
 
 -- ---- 0 is no count
@@ -87,15 +87,19 @@ run-begins (suc n) s = begins (tickOf s .moved)
     begins true = omega arith
     begins false = end-begins (runOf (suc n) s .number) (runOf (suc n) s .simulation)
 
-report-begins : (r : ReadDescription) → Begins (leftOf (reportOf r))
-unfolding leftOf reportOf
-report-begins Malformed = refused-begins 15
-report-begins (Given d) = begins (eqb (buildOf (networkOf d) (d .seed) .number) 0)
+begun-begins : (d : Description) → Begins (leftOf (begunOf d))
+unfolding leftOf begunOf
+begun-begins d = begins (eqb (buildOf (networkOf d) (d .seed) .number) 0)
   where
     begins : (b : Bool) → Begins (leftAt (buildOf (networkOf d) (d .seed) .simulation) (cond b (Stage.Ticks (d .ticks)) (Stage.Refused (buildOf (networkOf d) (d .seed) .number))))
     begins true = run-begins (d .ticks) (buildOf (networkOf d) (d .seed) .simulation)
     begins false = refused-begins (buildOf (networkOf d) (d .seed) .number)
 
+report-begins : (d : ReadAs) → Begins (leftOf (reportOf d))
+unfolding leftOf reportOf answeredOf answerOf
+report-begins malformed = refused-begins 15
+report-begins (given w) = begun-begins (descriptionOf w)
+
 -- whatever a text is read as: where all of it is put, its count is above 0
-pub count-above-0 : (r : ReadDescription) (out : List ℕ) → noneLeft (puts (leftOf (reportOf r)) out 0 .rest) ≡ true → 0 < putCount (puts (leftOf (reportOf r)) out 0)
+pub count-above-0 : (r : ReadAs) (out : List ℕ) → noneLeft (puts (leftOf (reportOf r)) out 0 .rest) ≡ true → 0 < putCount (puts (leftOf (reportOf r)) out 0)
 count-above-0 r out e = rw e (put-above-0 (leftOf (reportOf r)) out (report-begins r) e)

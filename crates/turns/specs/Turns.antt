@@ -7,6 +7,7 @@ use Rattle.quantities.specs.Units.{spanOf, rateOf, amountOf, since}
 use Rattle.meters.specs.declared.meter.AverageFlowMeter.{AverageFlowMeter}
 use Rattle.meters.specs.Meter.{recordedOf}
 use Rattle.link.specs.declared.packet.Packet.{Packet}
+use Rattle.link.specs.declared.packet.Waiting.{Waiting}
 use Rattle.link.specs.declared.packet.Transit.{Transit}
 use Rattle.link.specs.declared.link.Limit.{Limit}
 use Rattle.link.specs.declared.link.Line.{Line}
@@ -52,27 +53,28 @@ ownerOf p = cond (ltb (p .sender) 16) (p .sender) 0
 abbrev pub linkTook : Delivered → Transmitted → LinkActed
 linkTook d t = record { number = t .number; left = d .left; begun = t .begun; at = placeAfter (d .line .«on_line»); line = t .line }
 
-unfoldable pub linkActed : RemyNetwork → Line → Time → Transit → Packet → LinkActed
+unfoldable pub linkActed : RemyNetwork → Line → Time → Transit → Waiting → LinkActed
 linkActed n l clock front first =
     let d = tryDeliver l clock front (n .loss) in
-    linkTook d (tryTransmit (d .line) clock first (spanOf (n .delay)) (rateOf (n .rate)) (amountOf (n .bits)))
+    linkTook d (tryTransmit (d .line) clock first (spanOf (n .delay)) (rateOf (n .rate)))
 
 abbrev pub onLineAt : Begun → Transit → Transit
 onLineAt Begun.Nobody old = old
 onLineAt (Begun.Starts x) old = x
 
-abbrev pub heardMeterOf : RemyNetwork → Time → Packet → AverageFlowMeter → Heard → AverageFlowMeter
-heardMeterOf n clock p m Heard.Ignored = m
-heardMeterOf n clock p m Heard.Old = m
-heardMeterOf n clock p m Heard.Counted = recordedOf m (amountOf (n .bits)) (since clock (p .«sent_time»)) clock .meter
+abbrev pub heardMeterOf : ℕ → Time → Packet → AverageFlowMeter → Heard → AverageFlowMeter
+heardMeterOf bits clock p m Heard.Ignored = m
+heardMeterOf bits clock p m Heard.Old = m
+heardMeterOf bits clock p m Heard.Counted = recordedOf m (amountOf bits) (since clock (p .«sent_time»)) clock .meter
 
-abbrev pub heardWith : RemyNetwork → Time → Packet → AverageFlowMeter → Returned → Hearing
-heardWith n clock p m r = record { heard = true; mark = heardMark (r .heard); sender = r .sender; meter = heardMeterOf n clock p m (r .heard) }
+abbrev pub heardWith : ℕ → Time → Packet → AverageFlowMeter → Returned → Hearing
+heardWith bits clock p m r = record { heard = true; mark = heardMark (r .heard); sender = r .sender; meter = heardMeterOf bits clock p m (r .heard) }
 
-unfoldable pub heardBy : RemyNetwork → Time → Left → LossySender → AverageFlowMeter → Hearing
-heardBy n clock Left.Nobody x m = record { heard = false; mark = Mark.None; sender = x; meter = m }
-heardBy n clock (Left.Lost p) x m = record { heard = false; mark = Mark.Lost; sender = x; meter = m }
-heardBy n clock (Left.Out p) x m = heardWith n clock p m (returnedOf (n .policy) x p)
+-- at a sender with this policy, whose packets have so many bits
+unfoldable pub heardBy : Policy → ℕ → Time → Left → LossySender → AverageFlowMeter → Hearing
+heardBy policy bits clock Left.Nobody x m = record { heard = false; mark = Mark.None; sender = x; meter = m }
+heardBy policy bits clock (Left.Lost p) x m = record { heard = false; mark = Mark.Lost; sender = x; meter = m }
+heardBy policy bits clock (Left.Out p) x m = heardWith bits clock p m (returnedOf policy x p)
 
 abbrev pub leftName : Left → Name
 leftName Left.Nobody = Name.None
@@ -106,12 +108,13 @@ unfoldable pub arrivedAt : Limit → ℕ → Line → Sending → Arriving
 arrivedAt limit bits l Sending.Timer = record { number = 0; arrives = false; admitted = false; at = placeAfter (l .waiting); mark = Mark.Timer; line = l }
 arrivedAt limit bits l (Sending.Packet p) = arrivedWith l (receiveOf limit l (amountOf bits))
 
-abbrev pub sentPacket : Sending → Packet → Packet
-sentPacket Sending.Timer old = old
-sentPacket (Sending.Packet p) old = p
+-- a packet waits with its sender's bits
+abbrev pub sentPacket : ℕ → Sending → Waiting → Waiting
+sentPacket bits Sending.Timer old = old
+sentPacket bits (Sending.Packet p) old = record { packet = p; bits = amountOf bits }
 
-abbrev pub waitingAt : Bool → Sending → Packet → Packet
-waitingAt admitted sending old = cond admitted (sentPacket sending old) old
+abbrev pub waitingAt : Bool → ℕ → Sending → Waiting → Waiting
+waitingAt admitted bits sending old = cond admitted (sentPacket bits sending old) old
 
 abbrev pub sendingName : Sending → Name
 sendingName Sending.Timer = Name.None

@@ -13,6 +13,7 @@ use link::Limit;
 use link::Line;
 use link::Packet;
 use link::Transit;
+use link::Waiting;
 use meters::AverageFlowMeter;
 use meters::Reception;
 use quantities::Information;
@@ -88,7 +89,7 @@ pub fn link_acts(
     line: Line,
     clock: Time,
     front: Transit,
-    first: Packet,
+    first: Waiting,
 ) -> LinkActed
     requires { ⌜ (line .waiting .start < 512) × (line .«on_line» .start < 512) × (line .«on_line» .count ≤ 512) ⌝ }
     ensures { λ r. ⌜ r ≡ linkActed network line clock front first ⌝ }
@@ -99,7 +100,7 @@ pub fn link_acts(
     let at = on_line.end();
     let delay = TimeSpan(network.delay);
     let rate = InformationRate(network.rate);
-    let t = link::try_transmit(d.line, clock, first, delay, rate, Information(network.bits));
+    let t = link::try_transmit(d.line, clock, first, delay, rate);
     let begun = t.begun;
     let line = t.line;
     LinkActed {
@@ -121,15 +122,17 @@ pub fn on_line_at(begun: Begun, old: Transit) -> Transit
     }
 }
 
-// The packet that left comes to its sender, if it was not lost; a counted one goes into the meter.
+// The packet that left comes to its sender, if it was not lost; a counted one goes into the meter, with
+// the bits of the sender's packets.
 pub fn hear(
-    network: RemyNetwork,
+    policy: Policy,
+    bits: u64,
     clock: Time,
     left: Left,
     sender: LossySender,
     meter: AverageFlowMeter,
 ) -> Hearing
-    ensures { λ r. ⌜ r ≡ heardBy network clock left sender meter ⌝ }
+    ensures { λ r. ⌜ r ≡ heardBy policy bits clock left sender meter ⌝ }
 {
     match left {
         Left::Nobody => Hearing {
@@ -145,7 +148,6 @@ pub fn hear(
             meter,
         },
         Left::Out(p) => {
-            let policy = network.policy;
             let r = sender.receive_packet(policy, p);
             let heard = r.heard;
             let sender = r.sender;
@@ -164,7 +166,7 @@ pub fn hear(
                 },
                 Heard::Counted => {
                     let rtt = clock.sub(p.sent_time);
-                    let data = Information(network.bits);
+                    let data = Information(bits);
                     let m = record_lending(meter, Reception { data, rtt }, clock);
                     let meter = m.meter;
                     Hearing {
@@ -301,16 +303,19 @@ pub fn arrive(limit: Limit, bits: u64, line: Line, sending: Sending) -> Arriving
     }
 }
 
-// What a place of the queue of packets holds then.
-pub fn waiting_at(admitted: bool, sending: Sending, old: Packet) -> Packet
-    ensures { λ r. ⌜ r ≡ waitingAt admitted sending old ⌝ }
+// What a place of the queue of packets holds then: an admitted packet waits with its sender's bits.
+pub fn waiting_at(admitted: bool, bits: u64, sending: Sending, old: Waiting) -> Waiting
+    ensures { λ r. ⌜ r ≡ waitingAt admitted bits sending old ⌝ }
 {
     if !admitted {
         return old;
     }
     match sending {
         Sending::Timer => old,
-        Sending::Packet(p) => p,
+        Sending::Packet(packet) => {
+            let bits = Information(bits);
+            Waiting { packet, bits }
+        }
     }
 }
 

@@ -1,40 +1,44 @@
--- The loop keeps: the ticks left from here give what all n give from the start; what the types of code say; and a steady state where it began with one. Each arm's turn is a law of Loop; what is known at a point of the code is shown once, for all that need it. Assumes nothing.
-use mathlib.Core.Path.{_≡_, sym, ap, subst, _∙_}
+-- The loop keeps: the ticks left from here give what all n give from the start; what the types of code say; a steady state where it began with one; and the senders' packet bits. Each arm's turn is a law of Loop; what is known at a point of the code is shown once, for all that need it. Assumes nothing.
+use mathlib.Core.Path.{_≡_, refl, sym, ap, subst, _∙_}
 use mathlib.Core.Bool.{true}
+use mathlib.Core.List.{List}
 use mathlib.Core.Logic.{⊎-elim}
-use Prim.Native.Nat.{ℕ, _+_, _-_, _≤_, _<_}
+use Prim.Native.Nat.{ℕ, _+_, _-_, _≤_, _<_, _^_}
 use native.Mathlib.Omega.{arith}
-use lib.ListN.{set}
+use lib.ListN.{getD, set}
 use borrow.Author.Needs.{needs}
 use borrow.Author.Tests.{ne-eqb}
 use Rattle.toggler.specs.declared.tick_queue.Queued.{Queued}
 use Rattle.toggler.specs.declared.tick_queue.Picked.{Picked}
 use Rattle.toggler.specs.Queue.{pickOf}
+use Rattle.remy.specs.declared.network.RemyNetwork.{RemyNetwork}
 use Rattle.remy.specs.declared.simulation.Simulation.{Simulation}
 use Rattle.remy.specs.declared.simulation.TickRecord.{TickRecord}
 use Rattle.remy.specs.declared.simulation.Ticked.{Ticked}
-use Rattle.remy.specs.State.{link, sender, toggler, frontOf}
+use Rattle.remy.specs.State.{link, sender, toggler, noWaiting, senderAt, meterAt, frontOf, senderBits}
 use Rattle.remy.specs.Tick.{emptyRecord, moves, unmoved, ticked, tickOf}
 use Rattle.remy.specs.Fit.{fit}
 use Rattle.steady.specs.Clock.{Typed}
 use Rattle.steady.proofs.Clock.{tick-typed}
 use Rattle.steady.proofs.Steady.{Steady, steady-fit}
+use Rattle.turns.specs.Turns.{heardBy, arrivedAt, waitingAt}
 use Rattle.advance.specs.Advance.{advanceOf}
 use Rattle.advance.proofs.Arms.{link-stops, sender-stops, sender-full, toggler-stops}
 use Rattle.advance.proofs.Types.{typed}
 use Rattle.advance.proofs.Ticks.{begins, goes-steady, stops-there, all-done, picked-small}
-use Rattle.advance.proofs.Loop.{Turn, no-turn, link-turn, sender-turn, toggler-turn, owner-small, link-at, link-start, arrive-at, arrive-start, link-stored, sender-stored, toggler-stored}
+use Rattle.advance.proofs.Loop.{Turn, no-turn, link-turn, sender-turn, sender-room, toggler-turn, owner-small, link-at, link-start, arrive-at, arrive-start, link-stored, sender-stored, toggler-stored}
 use Rattle.advance.proofs.advance.Statement.{statement}
 use Rattle.advance.proofs.advance.Tie as tie
 
 abbrev Inv-loop : tie.InvT-loop
-Inv-loop n steady st₀ done₀ note₀ st done note =
+Inv-loop n steady sizes st₀ done₀ note₀ st done note =
     (done ≤ n)
     × Typed st
     × ((advanceOf (n - done) done note st ≡ advanceOf n 0 emptyRecord st₀) × (steady ≡ true → Steady st))
+    × (sizes ≡ st .network .bits)
 
 abbrev μ-loop : tie.MeasureT-loop
-μ-loop n steady st₀ done₀ note₀ st done note = n - done
+μ-loop n steady sizes st₀ done₀ note₀ st done note = n - done
 
 -- the test of the state, or a steady state
 fit-known : (p : tie.Joined1 Inv-loop μ-loop) → p .if1 .fit ≡ fit (p .before .before .loop .st)
@@ -48,11 +52,18 @@ fit-known p =
 abbrev now-at : tie.After-whose-turn Inv-loop μ-loop → Simulation
 now-at w = w .before .before .before .before .before .before .before .loop .st
 
+-- the packet bits of a sender, as they are read from the copy
+bits-known : (w : tie.After-whose-turn Inv-loop μ-loop) (i : ℕ) → getD (w .before .before .before .before .before .before .before .before .before .before .before .before .args .simulation .network .bits) i 0 ≡ senderBits (now-at w .network) i .0
+bits-known w i = ap (λ (sizes : List ℕ). getD sizes i 0) (w .before .before .before .before .before .before .before .loop .inv .3)
+
 link-known : (p : tie.After-enum-told Inv-loop μ-loop) → Turn (now-at (p .before .before)) link 0
 link-known p = let w = p .before .before in link-turn (now-at w) _ (fit-known (w .before .before .before .before .before)) (w .whose-turn .result) (w .whose-turn .ensures) (p .enum-told .given .1)
 
 sender-known : (p : tie.After-now2 Inv-loop μ-loop) → Turn (now-at (p .before .before)) (sender (p .now2 .given .0 .0)) (p .now2 .given .0 .0)
 sender-known p = let w = p .before .before in sender-turn (now-at w) _ (fit-known (w .before .before .before .before .before)) (w .whose-turn .result) (w .whose-turn .ensures) _ (p .now2 .given .1)
+
+room-known : (p : tie.After-now2 Inv-loop μ-loop) → now-at (p .before .before) .line .«buffer_contains» .0 + senderBits (now-at (p .before .before) .network) (p .now2 .given .0 .0) .0 < 2 ^ 64
+room-known p = let w = p .before .before in sender-room (now-at w) _ (fit-known (w .before .before .before .before .before)) (w .whose-turn .result) (w .whose-turn .ensures) _ (p .now2 .given .1)
 
 toggler-known : (p : tie.After-now3 Inv-loop μ-loop) → Turn (now-at (p .before .before)) (toggler (p .now3 .given .0 .0)) (p .now3 .given .0 .0)
 toggler-known p = let w = p .before .before in toggler-turn (now-at w) _ (fit-known (w .before .before .before .before .before)) (w .whose-turn .result) (w .whose-turn .ensures) _ (p .now3 .given .1)
@@ -72,6 +83,35 @@ arrive-place p = arrive-at _ _ _ (p .before .before .before .before .sender-acts
 arrive-front : (p : tie.After-arrive Inv-loop μ-loop) → p .arrive .result .line .«on_line» .start < 512
 arrive-front p = arrive-start _ _ _ (p .before .before .before .before .sender-acts .result .sending) (p .arrive .result) (p .arrive .ensures) (sender-known (p .before .before .before .before .before .before .before) .place .on-line-start)
 
+-- a turn reads its sender's bits
+heard-known : (p : tie.After-hear Inv-loop μ-loop) →
+    let s = now-at (p .before .before .before .before .before .before .before .before .before .before .before .before) in
+    let k = p .before .before .before .before .owner .result in
+    p .hear .result ≡ heardBy (s .network .policy) (senderBits (s .network) k .0) (s .head .clock) (p .before .before .before .before .before .before .before .link-acts .result .left) (senderAt s k) (meterAt s k)
+heard-known p =
+    let w = p .before .before .before .before .before .before .before .before .before .before .before .before in
+    let s = now-at w in
+    let k = p .before .before .before .before .owner .result in
+    p .hear .ensures ∙ ap (λ (b : ℕ). heardBy (s .network .policy) b (s .head .clock) (p .before .before .before .before .before .before .before .link-acts .result .left) (senderAt s k) (meterAt s k)) (bits-known w k)
+
+arrived-known : (p : tie.After-arrive Inv-loop μ-loop) →
+    let s = now-at (p .before .before .before .before .before .before .before .before .before) in
+    p .arrive .result ≡ arrivedAt (s .network .limit) (senderBits (s .network) (p .before .before .before .before .before .before .before .now2 .given .0 .0) .0) (s .line) (p .before .before .before .before .sender-acts .result .sending)
+arrived-known p =
+    let w = p .before .before .before .before .before .before .before .before .before in
+    let s = now-at w in
+    p .arrive .ensures ∙ ap (λ (b : ℕ). arrivedAt (s .network .limit) b (s .line) (p .before .before .before .before .sender-acts .result .sending)) (bits-known w _)
+
+waits-known : (p : tie.After-waiting-at Inv-loop μ-loop) →
+    let s = now-at (p .before .before .before .before .before .before .before .before .before .before .before .before .before .before) in
+    let a = p .before .before .before .before .before .arrive .result in
+    p .waiting-at .result ≡ waitingAt (a .admitted) (senderBits (s .network) (p .before .before .before .before .before .before .before .before .before .before .before .before .now2 .given .0 .0) .0) (p .before .before .before .before .before .before .before .before .before .sender-acts .result .sending) (getD (s .waiting) (a .at) noWaiting)
+waits-known p =
+    let w = p .before .before .before .before .before .before .before .before .before .before .before .before .before .before in
+    let s = now-at w in
+    let a = p .before .before .before .before .before .arrive .result in
+    p .waiting-at .ensures ∙ ap (λ (b : ℕ). waitingAt (a .admitted) b (p .before .before .before .before .before .before .before .before .before .sender-acts .result .sending) (getD (s .waiting) (a .at) noWaiting)) (bits-known w _)
+
 -- the part picked after two places of the queue were stored anew
 picked-at : (w : tie.After-whose-turn Inv-loop μ-loop) (i : ℕ) (x : Queued) (j : ℕ) (y : Queued) (q : Picked) → q ≡ pickOf (set (set (now-at w .queue) i x) j y) → q .part < 33
 picked-at w = picked-small (now-at w .queue) (w .before .before .before .before .before .before .before .loop .inv .1 .full .queue)
@@ -89,15 +129,20 @@ toggler-picked p = picked-at (p .before .before .before .before .before .before 
 
 -- the tick is refused or idle: the loop ends
 stopped : (w : tie.After-whose-turn Inv-loop μ-loop) (k : ℕ) → tickOf (now-at w) ≡ unmoved (now-at w) k → (e : TickRecord) → e ≡ emptyRecord
-    → record { done = w .before .before .before .before .before .before .before .loop .done; number = k; note = e; simulation = now-at w } ≡ advanceOf (w .before .before .before .before .before .before .before .before .before .before .args .n) 0 emptyRecord (w .before .before .before .before .before .before .before .before .before .before .args .simulation)
+    → record { done = w .before .before .before .before .before .before .before .loop .done; number = k; note = e; simulation = now-at w } ≡ advanceOf (w .before .before .before .before .before .before .before .before .before .before .before .before .args .n) 0 emptyRecord (w .before .before .before .before .before .before .before .before .before .before .before .before .args .simulation)
 stopped w k t e is = rw is (stops-there _ _ _ (now-at w) (w .before .before .before .before .before .before .loop-test .taken) k t ∙ w .before .before .before .before .before .before .before .loop .inv .2 .0)
 
 -- the tick moves: what the loop keeps, holds again
-moved : (w : tie.After-whose-turn Inv-loop μ-loop) (x : TickRecord) (m : Simulation) → tickOf (now-at w) ≡ ticked (now-at w) (moves x m)
-    → Inv-loop (w .before .before .before .before .before .before .before .before .before .before .args .n) (w .before .before .before .before .before .before .before .before .before .is-steady .result) (w .before .before .before .before .before .before .before .before .before .before .args .simulation) 0 (w .before .before .before .before .before .before .before .before .empty-record .result) m (w .before .before .before .before .before .before .before .loop .done + 1) x
-moved w x m t =
+moved : (w : tie.After-whose-turn Inv-loop μ-loop) (x : TickRecord) (m : Simulation) → tickOf (now-at w) ≡ ticked (now-at w) (moves x m) → now-at w .network ≡ m .network
+    → Inv-loop (w .before .before .before .before .before .before .before .before .before .before .before .before .args .n) (w .before .before .before .before .before .before .before .before .before .before .before .is-steady .result) (w .before .before .before .before .before .before .before .before .before .before .before .before .args .simulation .network .bits) (w .before .before .before .before .before .before .before .before .before .before .before .before .args .simulation) 0 (w .before .before .before .before .before .before .before .before .empty-record .result) m (w .before .before .before .before .before .before .before .loop .done + 1) x
+moved w x m t same =
     let l = w .before .before .before .before .before .before .before .loop in
-    let more = w .before .before .before .before .before .before .loop-test .taken in (omega (arith, more), subst (λ (y : Ticked). Typed (y .simulation)) t (tick-typed (l .st) (l .inv .1)), goes-steady _ _ _ (l .st) more x m t _ _ (l .inv .2))
+    let more = w .before .before .before .before .before .before .loop-test .taken in (
+      omega (arith, more),
+      subst (λ (y : Ticked). Typed (y .simulation)) t (tick-typed (l .st) (l .inv .1)),
+      goes-steady _ _ _ (l .st) more x m t _ _ (l .inv .2),
+      l .inv .3 ∙ ap (λ (n : RemyNetwork). n .bits) same,
+    )
 
 -- ---- the needs, in the order of the code
 
@@ -109,10 +154,11 @@ empty-record-requires c κs = search needs
 
 loop-holds : tie.Need-loop-holds Inv-loop μ-loop
 loop-holds c =
-    let start = c .before .before in
+    let tested = c .before .before .before in
+    let start = tested .before in
     let s = start .args .simulation in
     let y : Typed s = typed s _ (start .good .0) in
-    (omega arith, y, (begins _ _ _ (c .empty-record .ensures), λ e. record { test = sym (c .before .is-steady .ensures) ∙ e; typed = y }))
+    (omega arith, y, (begins _ _ _ (c .empty-record .ensures), λ e. record { test = sym (tested .is-steady .ensures) ∙ e; typed = y }), refl)
 
 is-fit-requires : tie.Need-is-fit-requires Inv-loop μ-loop
 is-fit-requires c κs = search needs
@@ -173,6 +219,12 @@ mul-meter c = omega (arith, owner-known (c .before))
 
 element-copy-out-meter : tie.Need-element-copy-out-meter Inv-loop μ-loop
 element-copy-out-meter c = owner-known (c .before)
+
+mul-bits : tie.Need-mul-bits Inv-loop μ-loop
+mul-bits c = omega (arith, owner-known (c .before .before .before))
+
+array-read-bits : tie.Need-array-read-bits Inv-loop μ-loop
+array-read-bits c = owner-known (c .before .before .before)
 
 hear-requires : tie.Need-hear-requires Inv-loop μ-loop
 hear-requires c κs = search needs
@@ -265,7 +317,7 @@ link-note-requires : tie.Need-link-note-requires Inv-loop μ-loop
 link-note-requires c κs = search needs
 
 add-done : tie.Need-add-done Inv-loop μ-loop
-add-done c = let w = c .before .before .before .before .before .before .before .before .before .before .before .before .before .before .before .before .before .before .before .before .before .before .before .before .before .before .before in omega (arith, w .before .before .before .before .before .before .loop-test .taken, w .before .before .before .before .before .before .before .before .before .before .fits .n .fits)
+add-done c = let w = c .before .before .before .before .before .before .before .before .before .before .before .before .before .before .before .before .before .before .before .before .before .before .before .before .before .before .before in omega (arith, w .before .before .before .before .before .before .loop-test .taken, w .before .before .before .before .before .before .before .before .before .before .before .before .fits .n .fits)
 
 loop-less : tie.Need-loop-less Inv-loop μ-loop
 loop-less c = let w = c .before .before .before .before .before .before .before .before .before .before .before .before .before .before .before .before .before .before .before .before .before .before .before .before .before .before .before in omega (arith, w .before .before .before .before .before .before .loop-test .taken)
@@ -285,9 +337,10 @@ loop-again c =
     let w = e .before .before in
     let l = w .before .before .before .before .before .before .before .loop in
     moved w _ _
-    (link-stored (l .st) (l .inv .1 .full) (at-owner .owner .result) (at-owner .owner .ensures) (link-known e) (at-link-acts .link-acts .result) (at-link-acts .link-acts .ensures) (at-owner .before .if2 .left) (at-hear .hear .result) (at-hear .hear .ensures)
+    (link-stored (l .st) (l .inv .1 .full) (at-owner .owner .result) (at-owner .owner .ensures) (link-known e) (at-link-acts .link-acts .result) (at-link-acts .link-acts .ensures) (at-owner .before .if2 .left) (at-hear .hear .result) (heard-known at-hear)
     (at-on-line-at .on-line-at .result) (at-on-line-at .on-line-at .ensures) (at-link-slot .link-slot .result) (at-link-slot .link-slot .ensures) (at-sender-slot .sender-slot .result) (at-sender-slot .sender-slot .ensures)
     (at-pick .pick .result) (at-pick .pick .ensures) (at-place-after .place-after .result) (at-place-after .place-after .ensures) (at-head-of .head-of .result) (at-head-of .head-of .ensures) (c .link-note .result) (c .link-note .ensures))
+    refl
 
 enum-known-now-2 : tie.Need-enum-known-now-2 Inv-loop μ-loop
 enum-known-now-2 c = search needs
@@ -311,20 +364,29 @@ returns-3 c =
     let s = now-at (e .before .before) in
     stopped (e .before .before) _ (sender-known e .tick ∙ ap (ticked s) (sender-stops s _ (acts .result) (acts .ensures) (ne-eqb _ _ (c .before .if3 .taken)))) (c .empty-record4 .result) (c .empty-record4 .ensures)
 
+mul-bits-2 : tie.Need-mul-bits-2 Inv-loop μ-loop
+mul-bits-2 c = omega (arith, sender-known (c .before .before .before .before .before .before) .below)
+
+array-read-bits-2 : tie.Need-array-read-bits-2 Inv-loop μ-loop
+array-read-bits-2 c = sender-known (c .before .before .before .before .before .before) .below
+
 arrive-requires : tie.Need-arrive-requires Inv-loop μ-loop
-arrive-requires c κs = (sender-known (c .before .before .before .before .before .before) .place .waiting-start, sender-known (c .before .before .before .before .before .before) .place .waiting-count, sender-known (c .before .before .before .before .before .before) .place .room)
+arrive-requires c κs =
+    let p = c .before .before .before .before .before .before in
+    let w = p .before .before in
+    (sender-known p .place .waiting-start, sender-known p .place .waiting-count, subst (λ (b : ℕ). now-at w .line .«buffer_contains» .0 + b < 2 ^ 64) (sym (bits-known w _)) (room-known p))
 
 empty-record-requires-5 : tie.Need-empty-record-requires-5 Inv-loop μ-loop
 empty-record-requires-5 c κs = search needs
 
 returns-4 : tie.Need-returns-4 Inv-loop μ-loop
 returns-4 c =
-    let arrives = c .before .before .before .arrive in
+    let arrived = c .before .before .before in
     let acts = c .before .before .before .before .before .before .before .sender-acts in
     let e = c .before .before .before .before .before .before .before .before .before .before in
     let s = now-at (e .before .before) in
     stopped (e .before .before) _
-    (sender-known e .tick ∙ ap (ticked s) (sender-full s _ (acts .result) (acts .ensures) (c .before .before .before .before .before .if3 .left) (arrives .result) (arrives .ensures) (ne-eqb _ _ (c .before .if4 .taken))))
+    (sender-known e .tick ∙ ap (ticked s) (sender-full s _ (acts .result) (acts .ensures) (c .before .before .before .before .before .if3 .left) (arrived .arrive .result) (arrived-known arrived) (ne-eqb _ _ (c .before .if4 .taken))))
     (c .empty-record5 .result) (c .empty-record5 .ensures)
 
 mul-old-2 : tie.Need-mul-old-2 Inv-loop μ-loop
@@ -409,7 +471,7 @@ sender-note-requires : tie.Need-sender-note-requires Inv-loop μ-loop
 sender-note-requires c κs = sender-known (c .before .before .before .before .before .before .before .before .before .before .before .before .before .before .before .before .before .before .before .before .before .before) .below
 
 add-done-2 : tie.Need-add-done-2 Inv-loop μ-loop
-add-done-2 c = let w = c .before .before .before .before .before .before .before .before .before .before .before .before .before .before .before .before .before .before .before .before .before .before .before .before .before in omega (arith, w .before .before .before .before .before .before .loop-test .taken, w .before .before .before .before .before .before .before .before .before .before .fits .n .fits)
+add-done-2 c = let w = c .before .before .before .before .before .before .before .before .before .before .before .before .before .before .before .before .before .before .before .before .before .before .before .before .before in omega (arith, w .before .before .before .before .before .before .loop-test .taken, w .before .before .before .before .before .before .before .before .before .before .before .before .fits .n .fits)
 
 loop-less-2 : tie.Need-loop-less-2 Inv-loop μ-loop
 loop-less-2 c = let w = c .before .before .before .before .before .before .before .before .before .before .before .before .before .before .before .before .before .before .before .before .before .before .before .before .before in omega (arith, w .before .before .before .before .before .before .loop-test .taken)
@@ -430,9 +492,10 @@ loop-again-2 c =
     let w = e .before .before in
     let l = w .before .before .before .before .before .before .before .loop in
     moved w _ _
-    (sender-stored (l .st) (l .inv .1 .full) _ (sender-known e) (at-sender-acts .sender-acts .result) (at-sender-acts .sender-acts .ensures) (at-if3 .if3 .left) (at-arrive .arrive .result) (at-arrive .arrive .ensures) (at-if4 .if4 .left)
-    (at-waiting-at .waiting-at .result) (at-waiting-at .waiting-at .ensures) (at-sender-slot .sender-slot2 .result) (at-sender-slot .sender-slot2 .ensures) (at-link-slot .link-slot2 .result) (at-link-slot .link-slot2 .ensures)
+    (sender-stored (l .st) (l .inv .1 .full) _ (sender-known e) (at-sender-acts .sender-acts .result) (at-sender-acts .sender-acts .ensures) (at-if3 .if3 .left) (at-arrive .arrive .result) (arrived-known at-arrive) (at-if4 .if4 .left)
+    (at-waiting-at .waiting-at .result) (waits-known at-waiting-at) (at-sender-slot .sender-slot2 .result) (at-sender-slot .sender-slot2 .ensures) (at-link-slot .link-slot2 .result) (at-link-slot .link-slot2 .ensures)
     (at-pick .pick2 .result) (at-pick .pick2 .ensures) (at-place-after .place-after2 .result) (at-place-after .place-after2 .ensures) (at-head-of .head-of2 .result) (at-head-of .head-of2 .ensures) (c .sender-note .result) (c .sender-note .ensures))
+    refl
 
 enum-known-now-3 : tie.Need-enum-known-now-3 Inv-loop μ-loop
 enum-known-now-3 c = search needs
@@ -553,7 +616,7 @@ toggler-note-requires : tie.Need-toggler-note-requires Inv-loop μ-loop
 toggler-note-requires c κs = toggler-known (c .before .before .before .before .before .before .before .before .before .before .before .before .before .before .before .before .before .before .before) .below
 
 add-done-3 : tie.Need-add-done-3 Inv-loop μ-loop
-add-done-3 c = let w = c .before .before .before .before .before .before .before .before .before .before .before .before .before .before .before .before .before .before .before .before .before .before in omega (arith, w .before .before .before .before .before .before .loop-test .taken, w .before .before .before .before .before .before .before .before .before .before .fits .n .fits)
+add-done-3 c = let w = c .before .before .before .before .before .before .before .before .before .before .before .before .before .before .before .before .before .before .before .before .before .before in omega (arith, w .before .before .before .before .before .before .loop-test .taken, w .before .before .before .before .before .before .before .before .before .before .before .before .fits .n .fits)
 
 loop-less-3 : tie.Need-loop-less-3 Inv-loop μ-loop
 loop-less-3 c = let w = c .before .before .before .before .before .before .before .before .before .before .before .before .before .before .before .before .before .before .before .before .before .before in omega (arith, w .before .before .before .before .before .before .loop-test .taken)
@@ -576,6 +639,7 @@ loop-again-3 c =
     (toggler-stored (l .st) (l .inv .1 .full) _ (toggler-known e) (at-toggle .toggle .result) (at-toggle .toggle .ensures) (at-if5 .if5 .left) (at-switched .switched .result) (at-switched .switched .ensures) (at-switch .switch-lending .result) (at-switch .switch-lending .ensures)
     (at-toggler-slot .toggler-slot .result) (at-toggler-slot .toggler-slot .ensures) (at-sender-slot .sender-slot3 .result) (at-sender-slot .sender-slot3 .ensures)
     (at-pick .pick3 .result) (at-pick .pick3 .ensures) (at-place-after .place-after3 .result) (at-place-after .place-after3 .ensures) (at-head-of .head-of3 .result) (at-head-of .head-of3 .ensures) (c .toggler-note .result) (c .toggler-note .ensures))
+    refl
 
 returns-6 : tie.Need-returns-6 Inv-loop μ-loop
 returns-6 c =
@@ -609,6 +673,8 @@ advance-spec =
     element-copy-out-sender
     mul-meter
     element-copy-out-meter
+    mul-bits
+    array-read-bits
     hear-requires
     mul-old
     element-copy-out-old
@@ -648,6 +714,8 @@ advance-spec =
     sender-acts-requires
     empty-record-requires-4
     returns-3
+    mul-bits-2
+    array-read-bits-2
     arrive-requires
     empty-record-requires-5
     returns-4

@@ -7,8 +7,8 @@ use Rattle.builder.proofs.state.fresh.Tie as tie
 new-line-requires : tie.Need-new-line-requires
 new-line-requires c κs = search needs
 
-blank-packet-requires : tie.Need-blank-packet-requires
-blank-packet-requires c κs = search needs
+blank-waiting-requires : tie.Need-blank-waiting-requires
+blank-waiting-requires c κs = search needs
 
 blank-transit-requires : tie.Need-blank-transit-requires
 blank-transit-requires c κs = search needs
@@ -22,7 +22,7 @@ returns c =
     rw (
       c .new-disabled .ensures,
       c .before .blank-transit .ensures,
-      c .before .before .blank-packet .ensures,
+      c .before .before .blank-waiting .ensures,
       c .before .before .before .new-line .ensures,
     )
 
@@ -31,7 +31,7 @@ fresh-spec =
     tie.close
     (tie.spec
     new-line-requires
-    blank-packet-requires
+    blank-waiting-requires
     blank-transit-requires
     new-disabled-requires
     returns)

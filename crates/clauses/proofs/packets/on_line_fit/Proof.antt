@@ -9,7 +9,7 @@ use Rattle.remy.specs.State.{noTransit}
 use Rattle.remy.specs.Fit.{every}
 use Rattle.clauses.specs.Tests.{transitTest, onLineTest}
 use Rattle.clauses.proofs.Turns.{rest, rest-all, every-goes, every-stops, every-done}
-use Rattle.clauses.proofs.Members.{packet-unknown, packet-is, transit-unfit, transit-is}
+use Rattle.clauses.proofs.Members.{packet-unknown, packet-is, first-fails, first-passes}
 use Rattle.clauses.proofs.packets.on_line_fit.Statement.{statement}
 use Rattle.clauses.proofs.packets.on_line_fit.Tie as tie
 
@@ -34,10 +34,10 @@ array-copy-out-transit : tie.Need-array-copy-out-transit Inv-loop μ-loop
 array-copy-out-transit c = search needs
 
 returns : tie.Need-returns Inv-loop μ-loop
-unfolding onLineTest
+unfolding onLineTest transitTest
 returns c =
     let L = c .before .before .before .before .loop in
-    every-stops _ noTransit _ _ _ (L .i) (c .before .before .before .loop-test .taken) (transit-unfit _ _ _ _ (packet-unknown _ _ _ _ (c .if1 .taken))) ∙ L .inv .1
+    every-stops _ noTransit _ _ _ (L .i) (c .before .before .before .loop-test .taken) (first-fails _ _ (packet-unknown _ _ _ _ (c .if1 .taken))) ∙ L .inv .1
 
 cast-sender : tie.Need-cast-sender Inv-loop μ-loop
 cast-sender c = search needs
@@ -52,25 +52,25 @@ sent-fit-requires : tie.Need-sent-fit-requires Inv-loop μ-loop
 sent-fit-requires c κs = search needs
 
 returns-2 : tie.Need-returns-2 Inv-loop μ-loop
-unfolding onLineTest
+unfolding onLineTest transitTest
 returns-2 c =
     let L = c .before .before .before .before .before .before .before .loop in
     let S = c .before .sent-fit in
     every-stops _ noTransit _ _ _ (L .i) (c .before .before .before .before .before .before .loop-test .taken)
-    (transit-unfit _ _ _ _ (packet-is _ _ _ _ (c .before .before .before .if1 .left) _ (c .before .sent-fit .ensures) ∙ not-true (S .result) (c .if2 .taken)))
+    (first-fails _ _ (packet-is _ _ _ _ (c .before .before .before .if1 .left) _ (c .before .sent-fit .ensures) ∙ not-true (S .result) (c .if2 .taken)))
     ∙ L .inv .1
 
 time-held-requires : tie.Need-time-held-requires Inv-loop μ-loop
 time-held-requires c κs = search needs
 
 returns-3 : tie.Need-returns-3 Inv-loop μ-loop
-unfolding onLineTest
+unfolding onLineTest transitTest
 returns-3 c =
     let L = c .before .before .before .before .before .before .before .before .before .before .loop in
     let S = c .before .before .before .before .sent-fit in
     let D = c .before .time-held in
     every-stops _ noTransit _ _ _ (L .i) (c .before .before .before .before .before .before .before .before .before .loop-test .taken)
-    (transit-is _ _ _ _ (packet-is _ _ _ _ (c .before .before .before .before .before .before .if1 .left) _ (c .before .before .before .before .sent-fit .ensures) ∙ not-false (S .result) (c .before .before .before .if2 .left)) _ (D .ensures)
+    (first-passes _ _ (packet-is _ _ _ _ (c .before .before .before .before .before .before .if1 .left) _ (c .before .before .before .before .sent-fit .ensures) ∙ not-false (S .result) (c .before .before .before .if2 .left)) _ (D .ensures)
     ∙ not-true (D .result) (c .if3 .taken))
     ∙ L .inv .1
 
@@ -81,13 +81,14 @@ loop-less : tie.Need-loop-less Inv-loop μ-loop
 loop-less c = search needs
 
 loop-again : tie.Need-loop-again Inv-loop μ-loop
+unfolding transitTest
 loop-again c =
     let L = c .before .before .before .before .before .before .before .before .before .before .loop in
     let S = c .before .before .before .before .sent-fit in
     let D = c .before .time-held in (
       omega (arith, c .before .before .before .before .before .before .before .before .before .loop-test .taken),
       every-goes _ noTransit _ _ _ (L .i) (c .before .before .before .before .before .before .before .before .before .loop-test .taken)
-          (transit-is _ _ _ _ (packet-is _ _ _ _ (c .before .before .before .before .before .before .if1 .left) _ (c .before .before .before .before .sent-fit .ensures) ∙ not-false (S .result) (c .before .before .before .if2 .left)) _ (D .ensures)
+          (first-passes _ _ (packet-is _ _ _ _ (c .before .before .before .before .before .before .if1 .left) _ (c .before .before .before .before .sent-fit .ensures) ∙ not-false (S .result) (c .before .before .before .if2 .left)) _ (D .ensures)
           ∙ not-false (D .result) (c .if3 .left))
           ∙ L .inv .1,
     )

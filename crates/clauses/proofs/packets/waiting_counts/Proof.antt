@@ -2,29 +2,29 @@
 use Prim.Native.Nat.{_-_, _≤_}
 use native.Mathlib.Omega.{arith}
 use borrow.Author.Needs.{needs}
-use Rattle.remy.specs.State.{noPacket}
+use Rattle.remy.specs.State.{noWaiting}
 use Rattle.clauses.specs.Tests.{waitingOf}
 use Rattle.clauses.proofs.Turns.{Counted, counted-none, counted-one, counted-other, counted-all}
 use Rattle.clauses.proofs.packets.waiting_counts.Statement.{statement}
 use Rattle.clauses.proofs.packets.waiting_counts.Tie as tie
 
 abbrev Inv-loop : tie.InvT-loop
-Inv-loop waiting start count counts₀ i₀ counts i = (i ≤ count) × Counted (λ p. p .sender) noPacket waiting start count counts i
+Inv-loop waiting start count counts₀ i₀ counts i = (i ≤ count) × Counted (λ x. x .packet .sender) noWaiting waiting start count counts i
 
 abbrev μ-loop : tie.MeasureT-loop
 μ-loop waiting start count counts₀ i₀ counts i = count - i
 
 loop-holds : tie.Need-loop-holds Inv-loop μ-loop
-loop-holds c = (omega arith, counted-none _ noPacket _ _ _)
+loop-holds c = (omega arith, counted-none _ noWaiting _ _ _)
 
-add-packet : tie.Need-add-packet Inv-loop μ-loop
-add-packet c = search needs
+add-waits : tie.Need-add-waits Inv-loop μ-loop
+add-waits c = search needs
 
-mul-packet : tie.Need-mul-packet Inv-loop μ-loop
-mul-packet c = search needs
+mul-waits : tie.Need-mul-waits Inv-loop μ-loop
+mul-waits c = search needs
 
-array-copy-out-packet : tie.Need-array-copy-out-packet Inv-loop μ-loop
-array-copy-out-packet c = search needs
+array-copy-out-waits : tie.Need-array-copy-out-waits Inv-loop μ-loop
+array-copy-out-waits c = search needs
 
 cast-k : tie.Need-cast-k Inv-loop μ-loop
 cast-k c = search needs
@@ -37,7 +37,7 @@ array-read-c c = search needs
 
 add-counts : tie.Need-add-counts Inv-loop μ-loop
 add-counts c =
-    let L = c .before .before .before .before .loop in
+    let L = c .before .before .before .before .before .loop in
     let few = L .inv .1 .few _ (c .if1 .taken) in
     omega (arith, few)
 
@@ -55,9 +55,9 @@ loop-less c = search needs
 
 loop-again : tie.Need-loop-again Inv-loop μ-loop
 loop-again c =
-    let L = c .before .before .before .before .loop in
-    let more = c .before .before .before .loop-test .taken in
-    (omega (arith, more), counted-one _ noPacket _ _ _ (L .counts) (L .i) (L .inv .1) more (c .if1 .taken))
+    let L = c .before .before .before .before .before .loop in
+    let more = c .before .before .before .before .loop-test .taken in
+    (omega (arith, more), counted-one _ noWaiting _ _ _ (L .counts) (L .i) (L .inv .1) more (c .if1 .taken))
 
 add-i-2 : tie.Need-add-i-2 Inv-loop μ-loop
 add-i-2 c = search needs
@@ -67,13 +67,13 @@ loop-less-2 c = search needs
 
 loop-again-2 : tie.Need-loop-again-2 Inv-loop μ-loop
 loop-again-2 c =
-    let L = c .before .before .before .before .loop in
-    let more = c .before .before .before .loop-test .taken in
-    (omega (arith, more), counted-other _ noPacket _ _ _ (L .counts) (L .i) (L .inv .1) more (c .if1 .left))
+    let L = c .before .before .before .before .before .loop in
+    let more = c .before .before .before .before .loop-test .taken in
+    (omega (arith, more), counted-other _ noWaiting _ _ _ (L .counts) (L .i) (L .inv .1) more (c .if1 .left))
 
 returns : tie.Need-returns Inv-loop μ-loop
 unfolding waitingOf
-returns c = let L = c .before .loop in counted-all _ noPacket _ _ _ (L .counts) (L .i) (L .inv .1) (omega arith) (c .loop-test .left)
+returns c = let L = c .before .loop in counted-all _ noWaiting _ _ _ (L .counts) (L .i) (L .inv .1) (omega arith) (c .loop-test .left)
 
 pub waiting-counts-spec : {M : Type 1} → statement M
 waiting-counts-spec =
@@ -82,9 +82,9 @@ waiting-counts-spec =
     Inv-loop
     μ-loop
     loop-holds
-    add-packet
-    mul-packet
-    array-copy-out-packet
+    add-waits
+    mul-waits
+    array-copy-out-waits
     cast-k
     mul-c
     array-read-c

@@ -1,10 +1,12 @@
 -- Each return rewrites by the tests that led there. Assumes nothing.
+use Prim.Native.Nat.{ℕ, _*_, _^_, _≤_, _<_}
+use native.Mathlib.Nat.{mul-le-mul}
+use native.Mathlib.Omega.{arith}
 use lib.Ieee.{ofBits}
 use lib.Dec.{lit<}
 use borrow.Author.Needs.{needs}
 use Rattle.quantities.proofs.Tested.{passed, failed}
 use Rattle.clauses.specs.Tests.{meterTest}
-use Rattle.ranges.proofs.Bounds.{product-fits}
 use Rattle.clauses.proofs.senders.meter_fit.Statement.{statement}
 use Rattle.clauses.proofs.senders.meter_fit.Tie as tie
 
@@ -40,6 +42,10 @@ returns-3 c =
       passed (c .before .before .before .before .before .in-range .ensures) (c .before .before .before .before .if2 .left),
       failed (c .before .in-range2 .ensures) (c .if3 .taken),
     )
+
+-- a product of numbers below their bounds
+product-fits : (a b m n : ℕ) → a ≤ m → b ≤ n → m * n < 2 ^ 64 → a * b < 2 ^ 64
+product-fits a b m n h k f = let p : a * b ≤ m * n = mul-le-mul h k in omega arith
 
 mul-result : tie.Need-mul-result
 mul-result c = record { fits = product-fits _ (c .before .before .before .before .before .before .before .before .before .before .args .bits) 4294967295 16777216 (search needs) (c .before .before .before .before .before .before .before .before .before .before .pre) (lit< tt) }

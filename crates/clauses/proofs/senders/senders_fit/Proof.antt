@@ -12,11 +12,11 @@ use Rattle.clauses.proofs.senders.senders_fit.Statement.{statement}
 use Rattle.clauses.proofs.senders.senders_fit.Tie as tie
 
 abbrev Inv-loop : tie.InvT-loop
-Inv-loop policy bits clock n waiting on-line senders togglers meters i₀ i =
-    (i ≤ n) × (sendersTest policy bits clock (λ k. getD waiting k 0) (λ k. getD on-line k 0) i senders togglers meters ≡ true)
+Inv-loop policy clock n sizes waiting on-line senders togglers meters i₀ i =
+    (i ≤ n) × (sendersTest policy (λ k. getD sizes k 0) clock (λ k. getD waiting k 0) (λ k. getD on-line k 0) i senders togglers meters ≡ true)
 
 abbrev μ-loop : tie.MeasureT-loop
-μ-loop policy bits clock n waiting on-line senders togglers meters i₀ i = n - i
+μ-loop policy clock n sizes waiting on-line senders togglers meters i₀ i = n - i
 
 loop-holds : tie.Need-loop-holds Inv-loop μ-loop
 loop-holds c = (omega arith, senders-none _ _ _ _ _ _ _ _)
@@ -54,11 +54,17 @@ mul-b c = search needs
 array-read-b : tie.Need-array-read-b Inv-loop μ-loop
 array-read-b c = search needs
 
+mul-bits : tie.Need-mul-bits Inv-loop μ-loop
+mul-bits c = search needs
+
+array-read-bits : tie.Need-array-read-bits Inv-loop μ-loop
+array-read-bits c = search needs
+
 sender-fit-requires : tie.Need-sender-fit-requires Inv-loop μ-loop
 sender-fit-requires c κs =
     let pre = c .before .before .before .before .before .pre in
     let more = c .before .before .before .loop-test .taken in
-    (pre .0, pre .2 .few _ (omega (arith, more)), pre .3 .few _ (omega (arith, more)))
+    (pre .1 .each _ more, pre .2 .each _ (omega (arith, more)), pre .3 .each _ (omega (arith, more)))
 
 returns : tie.Need-returns Inv-loop μ-loop
 returns c =
@@ -100,6 +106,8 @@ senders-fit-spec =
     array-read-a
     mul-b
     array-read-b
+    mul-bits
+    array-read-bits
     sender-fit-requires
     returns
     add-i

@@ -5,10 +5,10 @@ use Rattle.held.proofs.edit.slots.Statement.{statement}
 use Rattle.held.proofs.edit.slots.Tie as tie
 
 abbrev Inv-loop : tie.InvT-loop
-Inv-loop text at on-line out₀ start n x k₀ out k = k ≤ 512
+Inv-loop text at on-line out₀ start n x w k₀ out k = k ≤ 512
 
 abbrev μ-loop : tie.MeasureT-loop
-μ-loop text at on-line out₀ start n x k₀ out k = n - k
+μ-loop text at on-line out₀ start n x w k₀ out k = n - k
 
 size-requires : tie.Need-size-requires Inv-loop μ-loop
 size-requires c κs = search needs
@@ -19,8 +19,14 @@ size-requires-2 c κs = search needs
 at-most-512-requires : tie.Need-at-most-512-requires Inv-loop μ-loop
 at-most-512-requires c κs = search needs
 
-transit-at-requires : tie.Need-transit-at-requires Inv-loop μ-loop
-transit-at-requires c κs = search needs
+packet-at-requires : tie.Need-packet-at-requires Inv-loop μ-loop
+packet-at-requires c κs = search needs
+
+moment-requires : tie.Need-moment-requires Inv-loop μ-loop
+moment-requires c κs = search needs
+
+number-requires : tie.Need-number-requires Inv-loop μ-loop
+number-requires c κs = search needs
 
 loop-holds : tie.Need-loop-holds Inv-loop μ-loop
 loop-holds c = search needs
@@ -52,7 +58,9 @@ slots-spec =
     size-requires
     size-requires-2
     at-most-512-requires
-    transit-at-requires
+    packet-at-requires
+    moment-requires
+    number-requires
     loop-holds
     slot-requires
     with-slot-requires

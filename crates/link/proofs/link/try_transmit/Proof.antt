@@ -38,8 +38,8 @@ less-requires c κs = search needs
 
 pop-requires : tie.Need-pop-requires
 pop-requires c κs =
-    let F = c .before .before .before .before .before .before .before .before .is-free in
-    let waits = free-count _ _ (sym (F .ensures) ∙ not-false (F .result) (c .before .before .before .before .before .before .before .if1 .left)) in
+    let F = c .before .before .before .before .before .before .before .before .before .is-free in
+    let waits = free-count _ _ (sym (F .ensures) ∙ not-false (F .result) (c .before .before .before .before .before .before .before .before .if1 .left)) in
     omega (arith, waits)
 
 push-requires : tie.Need-push-requires
@@ -49,14 +49,14 @@ returns-3 : tie.Need-returns-3
 unfolding tryTransmit
 returns-3 c =
     rw (
-      c .push .ensures,
-      c .before .pop .ensures,
-      c .before .before .before .less .ensures,
-      c .before .before .before .before .add2 .ensures,
-      c .before .before .before .before .before .add .ensures,
-      c .before .before .before .before .before .before .div-rate .ensures,
-      passed (c .before .before .before .before .before .before .before .before .before .before .is-free .ensures) (c .before .before .before .before .before .before .before .before .before .if1 .left),
-      lt-leb _ _ (c .before .before .before .before .before .before .before .if2 .left),
+      c .before .push .ensures,
+      c .before .before .pop .ensures,
+      c .before .before .before .before .less .ensures,
+      c .before .before .before .before .before .add2 .ensures,
+      c .before .before .before .before .before .before .add .ensures,
+      c .before .before .before .before .before .before .before .div-rate .ensures,
+      passed (c .before .before .before .before .before .before .before .before .before .before .before .before .is-free .ensures) (c .before .before .before .before .before .before .before .before .before .before .before .if1 .left),
+      lt-leb _ _ (c .before .before .before .before .before .before .before .before .before .if2 .left),
     )
 
 pub try-transmit-spec : {M : Type 1} → statement M

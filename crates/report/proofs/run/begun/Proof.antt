@@ -1,5 +1,5 @@
 -- The build's number gives the first stage. Assumes nothing.
-use Rattle.report.specs.Report.{reportOf}
+use Rattle.report.specs.Report.{begunOf}
 use borrow.Author.Needs.{needs}
 use Rattle.report.proofs.run.begun.Statement.{statement}
 use Rattle.report.proofs.run.begun.Tie as tie
@@ -14,7 +14,7 @@ first-requires : tie.Need-first-requires
 first-requires c κs = search needs
 
 returns : tie.Need-returns
-unfolding reportOf
+unfolding begunOf
 returns c = rw (c .first .ensures, ← c .before .before .before .network-of .ensures, ← c .before .before .build .ensures)
 
 pub begun-spec : {M : Type 1} → statement M
