@@ -2,11 +2,13 @@
 """The recorded held states and the port's program `held`.
 
 held.py stdin             the program's script, as crates/held/stdin has it: the descriptions of
-                          recorded/held.txt and recorded/digest.txt, the stops of stops.py, and
+                          recorded/held.txt and recorded/digest.txt, the networks with a return line
+                          of recorded/return.script, the stops of stops.py and return_stops.py, and
                           recorded runs cut in parts
 held.py stdout            its answers, as crates/held/stdout has them: the Rust's recorded lines, a
-                          digest of the Rust's recorded lines, what document 01 says, and for the
-                          cut runs the Rust's recorded state after as many ticks
+                          digest of the Rust's recorded lines, recorded/return.answers, what the
+                          papers say, and for the cut runs the Rust's recorded state after as many
+                          ticks
 held.py compare PROGRAM   runs the program on every description of recorded/digest.txt and compares
                           its lines with the Rust's, state lines by their digests
 """
@@ -14,18 +16,34 @@ import os
 import subprocess
 import sys
 
+import return_stops
 import stops
 
 HERE = os.path.dirname(os.path.abspath(__file__))
 POLICIES = {"held": 0, "grown": 1, "timed": 2}
 
 
+def recorded(name):
+    with open(os.path.join(HERE, "recorded", name)) as f:
+        return f.read()
+
+
 def cases(name):
     """Of each recorded case: its name, its description, the Rust's lines."""
-    with open(os.path.join(HERE, "recorded", name)) as f:
-        for case in f.read().strip("\n").split("\n\n"):
-            lines = case.split("\n")
-            yield lines[0][len("case "):], dict(l.split("=", 1) for l in lines[1:12]), lines[12:]
+    for case in recorded(name).strip("\n").split("\n\n"):
+        lines = case.split("\n")
+        yield lines[0][len("case "):], dict(l.split("=", 1) for l in lines[1:12]), lines[12:]
+
+
+def returns():
+    """Of each recorded network with a return line: its name, its line of the script, the Rust's lines. A network that is asked for its
+    digest alone has that line."""
+    script = recorded("return.script").splitlines()
+    answers = recorded("return.answers").splitlines()
+    for comment, asked in zip(script[::2], script[1::2]):
+        end = answers.index("") if asked[0] == "H" else 1
+        yield comment[len("# "):], asked, answers[:end]
+        answers = answers[end + (asked[0] == "H"):]
 
 
 def word(n):
@@ -53,11 +71,20 @@ def bits(text):
     return [word(n) for n in (values * 16 if len(values) == 1 else values + [0] * 16)[:16]]
 
 
+def values(d):
+    """A line's own: delay, rate, loss and limit."""
+    return [d["delay"], d["rate"], d["loss"], "-" * 16 if d["limit"] == "none" else word(d["limit"])]
+
+
+def back(d):
+    """Whether there is a return line, and its values."""
+    return [word(1), *values(d["back"])] if "back" in d else [word(0)] * 5
+
+
 def line(d, letter="H"):
-    """A description as a line of the program's input."""
-    limit = "-" * 16 if d["limit"] == "none" else word(d["limit"])
-    fields = [d["delay"], d["rate"], d["loss"], limit, *bits(d["bits"]), word(d["senders"])]
-    fields += distribution(d["on"]) + distribution(d["off"]) + policy(d["policy"])
+    """A description as a line of the program's input. A return line is no part of a description's text: it is the entry `back`."""
+    fields = [*values(d), *bits(d["bits"]), word(d["senders"])]
+    fields += distribution(d["on"]) + distribution(d["off"]) + policy(d["policy"]) + back(d)
     return letter + " " + " ".join(fields + [word(d["seed"]), word(d["ticks"])])
 
 
@@ -74,14 +101,17 @@ def digest(text):
 SHORT = ["example", "stop-8-switched-on", "stop-8-switched-off", "senders-0", "two-sizes"]
 # cut at some places, with the digest of that line
 LONG = ["rings-wrap", "stop-12", "stop-13", "sizes-rings-wrap"]
+# with a return line, cut at every place
+RETURN = ["return-worked"]
 
 
 class Run:
-    """A recorded run: what its network answers when it is run in parts."""
+    """A recorded run, of a line of the program's input: what its network answers when it is run in parts."""
 
-    def __init__(self, description, rust):
-        self.build = line(description, "B").rsplit(" ", 1)[0]
-        self.ticks = int(description["ticks"])
+    def __init__(self, asked, rust):
+        network, ticks = asked.rsplit(" ", 1)
+        self.build = "B" + network[1:]
+        self.ticks = int(ticks, 16)
         self.clocks = [l.split()[0][len("time="):] for l in rust if l.startswith("time=")]
         self.moved = len(self.clocks)
         stop, clock = next(l for l in rust if l.startswith("stop=")).split()
@@ -112,7 +142,10 @@ def joins():
     for file, look, names in [("held.txt", "A", SHORT), ("digest.txt", "X", LONG)]:
         for name, description, rust in cases(file):
             if name in names:
-                yield f"whole and cut: {name}", *cut(Run(description, rust), look, file == "held.txt")
+                yield f"whole and cut: {name}", *cut(Run(line(description), rust), look, file == "held.txt")
+    for name, asked, rust in returns():
+        if name in RETURN:
+            yield f"whole and cut: {name}", *cut(Run(asked, rust), "A", True)
 
 
 def cut(run, look, everywhere):
@@ -151,7 +184,8 @@ def main():
         for name, description, _ in cases("digest.txt"):
             print("#", name)
             print(line(description, "D"))
-        for name, commands, _ in [*stops.cases(), *joins()]:
+        print(recorded("return.script"), end="")
+        for name, commands, _ in [*stops.cases(), *return_stops.cases(), *joins()]:
             print("#", name)
             print("\n".join(commands))
     elif sys.argv[1:] == ["stdout"]:
@@ -159,7 +193,8 @@ def main():
             print("\n".join(rust) + "\n")
         for _, _, rust in cases("digest.txt"):
             print("lines " + digest("\n".join(rust) + "\n"))
-        for _, _, answers in [*stops.cases(), *joins()]:
+        print(recorded("return.answers"), end="")
+        for _, _, answers in [*stops.cases(), *return_stops.cases(), *joins()]:
             print("\n".join(answers))
     elif len(sys.argv) == 3 and sys.argv[1] == "compare":
         sys.exit(compare(sys.argv[2]))

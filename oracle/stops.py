@@ -64,14 +64,15 @@ def timed(most, gap):
 
 
 GOOD = dict(delay=1.0, rate=8.0, loss=0.0, limit=None, bits=8, senders=1,
-            on=always(1.0), off=always(1.0), policy=held(3))
+            on=always(1.0), off=always(1.0), policy=held(3), back=None)
 WORKED = dict(GOOD, limit=8, on=always(100.0))
 DROPPED = dict(GOOD, delay=0.0, rate=1.0, limit=0, bits=11200, policy=held(1),
                on=always(2.0**20), off=always(2.0**20))
 
 
 def network(n):
-    return (n["delay"], n["rate"], n["loss"], n["limit"], *places(n["bits"]), n["senders"], *n["on"], *n["off"], *n["policy"])
+    back = (0,) * 5 if n["back"] is None else (1, *n["back"])
+    return (n["delay"], n["rate"], n["loss"], n["limit"], *places(n["bits"]), n["senders"], *n["on"], *n["off"], *n["policy"], *back)
 
 
 def places(bits):
@@ -318,7 +319,7 @@ def unfit():
     yield not_fit("a next part that is not there", link, clock(3.0, 3))
     yield not_fit("no next part though some are queued", link, clock(3.0, None))
     yield not_fit("another part queued at another time than its own", queued(2, 64.0))
-    for k in (1, 3, 32):
+    for k in (1, 3, 4, 32, 33, 34):
         yield not_fit(f"part {k} queued with no time of its own", queued(k, 3.0))
     yield not_fit("another part not queued, with a time of its own", queued(2, None))
     for x, good in [(3.0, True), (2.0**41, True), (2.0, False), (after(2.0**41), False), (NAN, False)]:

@@ -1,5 +1,5 @@
 //! The messages of the simulation. FlowForge leaves their type to its caller, so the harness
-//! learns here which messages arrive: a packet that leaves the line and is lost reaches no sender.
+//! learns here which messages arrive: a packet that leaves a line and is lost reaches no part.
 
 use std::cell::Cell;
 
@@ -16,17 +16,39 @@ impl OfLifetime for Effects {
 
 pub enum Effect<'sim> {
     Sender(LossySenderEffect<'sim, Effect<'sim>>),
-    Link(Packet<'sim, Effect<'sim>>),
+    /// To a link or to the bouncer.
+    Packet(Packet<'sim, Effect<'sim>>),
     Nobody(Never),
 }
 
-thread_local! {
-    static ARRIVED: Cell<u64> = const { Cell::new(0) };
+/// How many packets have arrived.
+#[derive(Clone, Copy, Debug, PartialEq)]
+pub struct Arrived {
+    pub at_senders: u64,
+    /// At the links and the bouncer.
+    pub on_the_way: u64,
 }
 
-/// Packets that have arrived at a sender so far, in all simulations of this thread.
-pub fn arrived_at_senders() -> u64 {
-    ARRIVED.get()
+impl Arrived {
+    const NONE: Arrived = Arrived {
+        at_senders: 0,
+        on_the_way: 0,
+    };
+}
+
+thread_local! {
+    static ARRIVED: Cell<Arrived> = const { Cell::new(Arrived::NONE) };
+}
+
+/// What has arrived since this was asked last, in all simulations of this thread.
+pub fn arrived() -> Arrived {
+    ARRIVED.replace(Arrived::NONE)
+}
+
+fn count(one: impl FnOnce(&mut Arrived)) {
+    let mut arrived = ARRIVED.get();
+    one(&mut arrived);
+    ARRIVED.set(arrived);
 }
 
 impl<'sim> From<LossySenderEffect<'sim, Effect<'sim>>> for Effect<'sim> {
@@ -37,7 +59,7 @@ impl<'sim> From<LossySenderEffect<'sim, Effect<'sim>>> for Effect<'sim> {
 
 impl<'sim> From<Packet<'sim, Effect<'sim>>> for Effect<'sim> {
     fn from(packet: Packet<'sim, Effect<'sim>>) -> Self {
-        Effect::Link(packet)
+        Effect::Packet(packet)
     }
 }
 
@@ -59,7 +81,7 @@ impl<'sim> TryFrom<Effect<'sim>> for LossySenderEffect<'sim, Effect<'sim>> {
             return Err(Misdirected);
         };
         if matches!(effect, LossySenderEffect::Packet(_)) {
-            ARRIVED.set(ARRIVED.get() + 1);
+            count(|arrived| arrived.at_senders += 1);
         }
         Ok(effect)
     }
@@ -69,10 +91,11 @@ impl<'sim> TryFrom<Effect<'sim>> for Packet<'sim, Effect<'sim>> {
     type Error = Misdirected;
 
     fn try_from(effect: Effect<'sim>) -> Result<Self, Misdirected> {
-        match effect {
-            Effect::Link(packet) => Ok(packet),
-            _ => Err(Misdirected),
-        }
+        let Effect::Packet(packet) = effect else {
+            return Err(Misdirected);
+        };
+        count(|arrived| arrived.on_the_way += 1);
+        Ok(packet)
     }
 }
 

@@ -6,7 +6,13 @@ use text::held::{
 };
 
 use crate::{
-    components::{link::Link, packet::Packet, senders::lossy::LossySender, toggler::Toggler},
+    components::{
+        bouncer::LossyBouncer,
+        link::Link,
+        packet::{Ends, Packet},
+        senders::lossy::LossySender,
+        toggler::Toggler,
+    },
     effect::Effect,
     policy::Policy,
     simulation::Simulator,
@@ -15,71 +21,114 @@ use crate::{
 
 pub type Simulation<'sim, 'a> = Simulator<'sim, 'a, Effect<'sim>, NothingLogger>;
 
-type LinkPart<'sim> = Link<'sim, Effect<'sim>, NothingLogger>;
-type SenderPart<'sim, 'a, G> =
+pub type LinkPart<'sim> = Link<'sim, Effect<'sim>, NothingLogger>;
+pub type BouncerPart<'sim> = LossyBouncer<'sim, Effect<'sim>, NothingLogger>;
+pub type SenderPart<'sim, 'a, G> =
     LossySender<'sim, 'a, Policy, AverageFlowMeter, G, Effect<'sim>, NothingLogger>;
-type TogglerPart<'sim> = Toggler<'sim, Effect<'sim>>;
+pub type TogglerPart<'sim> = Toggler<'sim, Effect<'sim>>;
 
-/// What a part number stands for, as `populate_sim` inserts them.
+/// What a part number stands for.
 #[derive(Clone, Copy, Debug, PartialEq)]
 pub enum Part {
-    Link,
+    /// The link, or with 1 the one of the return line.
+    Link(usize),
     Sender(usize),
     Toggler(usize),
+    Bouncer,
 }
 
-impl Part {
-    pub fn of(number: usize) -> Part {
+/// The parts of a network, as `wiring::fill` inserts them.
+#[derive(Clone, Copy)]
+pub struct Parts {
+    pub senders: usize,
+    /// There is a return line.
+    pub back: bool,
+}
+
+impl Parts {
+    pub fn of(self, number: usize) -> Part {
+        let bouncer = 2 * self.senders + 1;
         match number {
-            0 => Part::Link,
+            0 => Part::Link(0),
+            last if last == bouncer => Part::Bouncer,
+            last if last == bouncer + 1 => Part::Link(1),
             odd if odd % 2 == 1 => Part::Sender(odd / 2),
             even => Part::Toggler(even / 2 - 1),
         }
     }
 
-    fn number(self) -> usize {
-        match self {
-            Part::Link => 0,
+    fn number(self, part: Part) -> usize {
+        match part {
+            Part::Link(0) => 0,
             Part::Sender(i) => 1 + 2 * i,
             Part::Toggler(i) => 2 + 2 * i,
+            Part::Bouncer => 2 * self.senders + 1,
+            Part::Link(_) => 2 * self.senders + 2,
+        }
+    }
+
+    fn links(self) -> usize {
+        1 + usize::from(self.back)
+    }
+
+    /// Where the packets of a sender come from and go to on a line: with a return line to the bouncer
+    /// and from it, otherwise back to the sender.
+    fn ends(self, link: usize, sender: usize) -> Ends {
+        let sender = self.number(Part::Sender(sender));
+        let other = if self.back {
+            self.number(Part::Bouncer)
+        } else {
+            sender
+        };
+        match link {
+            0 => Ends {
+                source: sender,
+                destination: other,
+            },
+            _ => Ends {
+                source: other,
+                destination: sender,
+            },
         }
     }
 }
 
-/// The typed parts of a simulation that `populate_sim` filled with senders whose policies a `G`
-/// makes, and whose meters are `AverageFlowMeter`s.
+/// The typed parts of a simulation that `wiring::fill` filled with senders whose policies a `G`
+/// makes.
 pub struct View<'s, 'sim, 'a, G> {
     simulation: &'s Simulation<'sim, 'a>,
+    parts: Parts,
     make_policy: std::marker::PhantomData<G>,
 }
 
 impl<'s, 'sim: 'a, 'a, G: Fn() -> Policy + 'a> View<'s, 'sim, 'a, G> {
     /// # Safety
-    /// The simulation must be one filled by `RemyNetwork::populate_sim` with a `G`.
-    pub unsafe fn new(simulation: &'s Simulation<'sim, 'a>, _make_policy: &G) -> Self {
+    /// The simulation must be one with these parts that `wiring::fill` filled with a `G`.
+    pub unsafe fn new(
+        simulation: &'s Simulation<'sim, 'a>,
+        parts: Parts,
+        _make_policy: &G,
+    ) -> Self {
         View {
             simulation,
+            parts,
             make_policy: std::marker::PhantomData,
         }
     }
 
-    pub fn senders(&self) -> usize {
-        self.simulation.parts() / 2
-    }
-
-    fn link(&self) -> &'s LinkPart<'sim> {
-        // SAFETY: by `new`, part 0 is the link.
-        unsafe { self.simulation.part(Part::Link.number()) }
+    fn link(&self, l: usize) -> &'s LinkPart<'sim> {
+        // SAFETY: by `new`, this part is a link.
+        unsafe { self.simulation.part(self.parts.number(Part::Link(l))) }
     }
 
     fn sender(&self, i: usize) -> &'s SenderPart<'sim, 'a, G> {
-        // SAFETY: by `new`, part 1 + 2i is sender i.
-        unsafe { self.simulation.part(Part::Sender(i).number()) }
+        // SAFETY: by `new`, this part is sender i.
+        unsafe { self.simulation.part(self.parts.number(Part::Sender(i))) }
     }
 
     fn toggler(&self, i: usize) -> &'s TogglerPart<'sim> {
-        // SAFETY: by `new`, part 2 + 2i is toggler i.
-        unsafe { self.simulation.part(Part::Toggler(i).number()) }
+        // SAFETY: by `new`, this part is toggler i.
+        unsafe { self.simulation.part(self.parts.number(Part::Toggler(i))) }
     }
 
     pub fn meter(&self, i: usize) -> &'s AverageFlowMeter {
@@ -91,11 +140,13 @@ impl<'s, 'sim: 'a, 'a, G: Fn() -> Policy + 'a> View<'s, 'sim, 'a, G> {
         Held {
             clock: simulation.time().double(),
             next: simulation.next_part(),
-            link: link(self.link()),
-            senders: (0..self.senders())
+            links: (0..self.parts.links())
+                .map(|l| link(self.link(l), |sender| self.parts.ends(l, sender)))
+                .collect(),
+            senders: (0..self.parts.senders)
                 .map(|i| sender(self.sender(i)))
                 .collect(),
-            togglers: (0..self.senders())
+            togglers: (0..self.parts.senders)
                 .map(|i| toggler(self.toggler(i)))
                 .collect(),
             queue: (0..simulation.parts())
@@ -105,7 +156,18 @@ impl<'s, 'sim: 'a, 'a, G: Fn() -> Policy + 'a> View<'s, 'sim, 'a, G> {
     }
 }
 
-fn link(link: &LinkPart) -> HeldLink {
+/// What a link holds. A packet's ends must be those that `ends` gives for its sender; the line does not
+/// show them.
+fn link(link: &LinkPart, ends: impl Fn(usize) -> Ends) -> HeldLink {
+    let packet = |packet: &Packet<_>| {
+        let sender = sender_of(packet);
+        assert_eq!(packet.ends(), ends(sender), "a packet that goes astray");
+        HeldPacket {
+            sender,
+            sequence: packet.sequence(),
+            sent: packet.sent_time().double(),
+        }
+    };
     HeldLink {
         earliest: link.earliest_start().double(),
         bits: link.waiting_bits(),
@@ -127,20 +189,16 @@ fn link(link: &LinkPart) -> HeldLink {
     }
 }
 
-/// The number of the sender that sent it.
+/// The number of the sender that sent it. One of a packet's ends is that sender; the other is too, or is
+/// the bouncer, whose part comes after those of all senders.
 pub fn sender_of<E>(packet: &Packet<'_, E>) -> usize {
-    match Part::of(packet.source_part()) {
-        Part::Sender(sender) => sender,
-        other => panic!("a packet whose source is {other:?}"),
-    }
-}
-
-fn packet<'sim>(packet: &Packet<'sim, Effect<'sim>>) -> HeldPacket {
-    HeldPacket {
-        sender: sender_of(packet),
-        sequence: packet.sequence(),
-        sent: packet.sent_time().double(),
-    }
+    let Ends {
+        source,
+        destination,
+    } = packet.ends();
+    let part = source.min(destination);
+    assert!(part % 2 == 1, "a packet of part {part}");
+    part / 2
 }
 
 fn sender<G>(sender: &SenderPart<'_, '_, G>) -> Sender {

@@ -14,3 +14,4 @@ pub mod meter_script;
 mod policy;
 pub mod session;
 pub mod sizes;
+mod wiring;

@@ -13,30 +13,27 @@ use std::{
 use generativity::{with_guard, Guard};
 use rand_distr::{limit_tries, Spent};
 use text::{
-    description::{two_to, Description, Distribution},
+    description::{two_to, Description},
     held::{Held, Packet, Sender},
     lines::{End, Flow, Name, Record},
 };
 
 use crate::{
-    effect::{arrived_at_senders, Effects},
-    look::{Part, Simulation, View},
-    networks::remy::RemyNetwork,
+    effect::{arrived, Arrived},
+    look::{Part, Parts, Simulation, View},
     policy::Policy,
-    quantities::{bits_per_second, bytes, packets, seconds, Information, TimeSpan},
+    quantities::packets,
     simulation::SimulatorBuilder,
     sizes,
-    util::{
-        logging::NothingLogger,
-        meters::AverageFlowMeter,
-        rand::{ContinuousDistribution, PositiveContinuousDistribution, Rng},
-    },
-    Network,
+    util::{logging::NothingLogger, rand::Rng},
+    wiring::{amount, fill},
 };
 
-/// Packets that may wait, and packets that may be on the line.
+/// Packets that may wait for a line, and packets that may be on it.
 const PLACES: usize = 512;
 const MOST_SENT: u64 = 1 << 24;
+
+const NO_TURN: &str = "the bouncer has no time of its own";
 
 /// Runs a description whose ranges are fit. `watch` is shown the built state, then for each tick
 /// its record if it moved and the state after it. The error is the number of a refused build.
@@ -103,6 +100,10 @@ fn run(
     let simulation = built(guard, description, make_policy, &mut rng)?;
     let mut running = Running {
         simulation,
+        parts: Parts {
+            senders: description.senders as usize,
+            back: description.back.is_some(),
+        },
         make_policy,
     };
 
@@ -180,53 +181,15 @@ fn built<'sim: 'a, 'a>(
     root: &'a mut Rng,
 ) -> Result<Simulation<'sim, 'a>, u8> {
     let builder = SimulatorBuilder::new(guard);
-    let filled = unless_spent(|| {
-        Network::<Effects>::populate_sim(
-            &network(description),
-            &builder,
-            make_policy,
-            root,
-            AverageFlowMeter::new_disabled,
-        );
-    });
+    let filled = unless_spent(|| fill(&builder, description, make_policy, root));
     filled.map_err(|Stopped(number)| number)?;
     Ok(builder.build(NothingLogger).expect("every slot is filled"))
 }
 
-fn network(description: &Description) -> RemyNetwork {
-    RemyNetwork {
-        rtt: seconds(description.delay),
-        packet_rate: bits_per_second(description.rate),
-        loss_rate: description.loss,
-        buffer_size: description.limit.map(amount),
-        num_senders: description.senders,
-        off_time: distribution(description.off),
-        on_time: distribution(description.on),
-    }
-}
-
-fn distribution(distribution: Distribution) -> PositiveContinuousDistribution<TimeSpan> {
-    PositiveContinuousDistribution(match distribution {
-        Distribution::Always(value) => ContinuousDistribution::Always {
-            value: seconds(value),
-        },
-        Distribution::Uniform(min, max) => ContinuousDistribution::Uniform {
-            min: seconds(min),
-            max: seconds(max),
-        },
-    })
-}
-
-/// An amount of so many bits. The published amount counts bytes, and rounding a limit down to
-/// bytes changes no admission: what is compared with it is whole packets of 1,400 bytes.
-fn amount(bits: u64) -> Information {
-    let one = packets(1);
-    bytes(bits / (one.bits() / one.bytes()))
-}
-
-/// A simulation that `populate_sim` filled, with policies made by `make_policy`.
+/// A simulation with these parts that `fill` filled, with policies made by `make_policy`.
 struct Running<'sim, 'a, G> {
     simulation: Simulation<'sim, 'a>,
+    parts: Parts,
     make_policy: G,
 }
 
@@ -238,35 +201,44 @@ enum Tick {
 
 impl<'sim: 'a, 'a, G: Fn() -> Policy + 'a> Running<'sim, 'a, G> {
     fn view(&self) -> View<'_, 'sim, 'a, G> {
-        // SAFETY: `populate_sim` filled this simulation with a `G`.
-        unsafe { View::new(&self.simulation, &self.make_policy) }
+        // SAFETY: `fill` filled this simulation with these parts and a `G`.
+        unsafe { View::new(&self.simulation, self.parts, &self.make_policy) }
     }
 
     /// One tick; `before` is the state that it begins at.
     fn tick(&mut self, before: &Held) -> Tick {
-        let Some(part) = before.next else {
+        let Some(number) = before.next else {
             let moved = self.simulation.tick();
             assert!(!moved, "an idle simulation moved");
             return Tick::Idle;
         };
-        if let Some(number) = refused_before(before, Part::of(part)) {
+        let part = self.parts.of(number);
+        if let Some(number) = refused_before(before, part) {
             return Tick::Refused(number);
         }
-        let arrived = arrived_at_senders();
-        let ticked = match Part::of(part) {
+        arrived();
+        let ticked = match part {
             Part::Toggler(_) => unless_spent(|| self.simulation.tick()),
             // A link's sample is no positive draw: 0 is one of its values.
-            Part::Link | Part::Sender(_) => Ok(self.simulation.tick()),
+            Part::Link(_) | Part::Sender(_) => Ok(self.simulation.tick()),
+            Part::Bouncer => unreachable!("{NO_TURN}"),
         };
         match ticked {
             Ok(moved) => assert!(moved, "a simulation with a next part did not move"),
             Err(Stopped(number)) => return Tick::Refused(number),
         }
         let after = self.view().held();
-        if let Some(number) = refused_after(before, &after, Part::of(part)) {
+        if let Some(number) = refused_after(before, &after, part) {
             return Tick::Refused(number);
         }
-        let record = record(before, &after, part, arrived_at_senders() > arrived);
+        let done = done(before, &after, part, arrived());
+        let record = Record {
+            time: before.clock,
+            part: number,
+            mark: done.mark,
+            packet: done.packet,
+            started: done.started,
+        };
         Tick::Moved(record, after)
     }
 
@@ -322,97 +294,124 @@ fn refused_before(before: &Held, part: Part) -> Option<u8> {
     None
 }
 
-/// Stops that show in what the tick did: the Rust takes a 513th packet. A new time that is below
-/// the clock or not finite has no number (document 02, K6: there is none), so the harness ends.
+/// Stops that show in what the tick did: the Rust takes a 513th packet. A link's start comes before
+/// what its message does on the second line, and so 13 before 12. A new time that is below the clock or
+/// not finite has no number (document 02, K6: there is none), so the harness ends.
 fn refused_after(before: &Held, after: &Held, part: Part) -> Option<u8> {
     let fine = |time: f64| assert!(before.clock <= time && time.is_finite(), "{part:?}: {time}");
     match part {
-        Part::Link => {
-            if after.link.waiting.len() < before.link.waiting.len() {
-                fine(after.link.earliest);
-                after.link.line.last().map(|last| last.due).into_iter().for_each(fine);
+        Part::Link(l) => {
+            let (was, is) = (&before.links[l], &after.links[l]);
+            if is.waiting.len() < was.waiting.len() {
+                fine(is.earliest);
+                let due = is.line.last().map(|last| last.due);
+                due.into_iter().for_each(fine);
             }
-            (after.link.line.len() > PLACES).then_some(13)
+            if is.line.len() > PLACES {
+                return Some(13);
+            }
         }
         Part::Sender(i) => {
             let timer = after.senders[i].enabled.as_ref().and_then(|on| on.timer);
             timer.into_iter().for_each(fine);
-            (after.link.waiting.len() > PLACES).then_some(12)
         }
-        Part::Toggler(i) => {
-            fine(after.togglers[i].next_toggle);
-            None
+        Part::Toggler(i) => fine(after.togglers[i].next_toggle),
+        Part::Bouncer => unreachable!("{NO_TURN}"),
+    }
+    let full = after.links.iter().any(|link| link.waiting.len() > PLACES);
+    full.then_some(12)
+}
+
+/// What a tick did, beside its time and part.
+struct Done {
+    mark: char,
+    packet: Option<Name>,
+    started: Option<Name>,
+}
+
+impl Done {
+    fn marked(mark: char, packet: Option<Name>) -> Done {
+        Done {
+            mark,
+            packet,
+            started: None,
         }
     }
 }
 
-/// What the tick did, as the states around it and the messages show. `arrived`: a packet reached
-/// a sender.
-fn record(before: &Held, after: &Held, part: usize, arrived: bool) -> Record {
-    let name = |packet: &Packet| Name {
-        sender: packet.sender,
-        sequence: packet.sequence,
-    };
-    let mut started = None;
-    let (mark, packet) = match Part::of(part) {
-        Part::Link => {
-            let (was, is) = (&before.link, &after.link);
-            started = (is.waiting.len() < was.waiting.len()).then(|| name(&was.waiting[0].packet));
+/// What the tick did, as the states around it and the messages show.
+fn done(before: &Held, after: &Held, part: Part, arrived: Arrived) -> Done {
+    match part {
+        Part::Link(l) => {
+            let (was, is) = (&before.links[l], &after.links[l]);
+            let started =
+                (is.waiting.len() < was.waiting.len()).then(|| name(&was.waiting[0].packet));
             let left = is.line.len() < was.line.len() + usize::from(started.is_some());
-            match left.then(|| &was.line[0].packet) {
-                None => ('-', None),
-                Some(packet) => (
-                    left_mark(before, after, packet, arrived),
-                    Some(name(packet)),
-                ),
+            let packet = left.then(|| &was.line[0].packet);
+            Done {
+                mark: packet.map_or('-', |packet| left_mark(before, after, l, packet, arrived)),
+                packet: packet.map(name),
+                started,
             }
         }
         Part::Sender(i) => {
             let sequence = after.senders[i].sent;
             if sequence == before.senders[i].sent {
-                ('T', None)
+                Done::marked('T', None)
             } else {
-                let admitted = after.link.waiting.len() > before.link.waiting.len();
-                (
-                    if admitted { 'S' } else { 'F' },
-                    Some(Name {
-                        sender: i,
-                        sequence,
-                    }),
-                )
+                let mark = if admitted(before, after, 0) { 'S' } else { 'F' };
+                let sent = Name {
+                    sender: i,
+                    sequence,
+                };
+                Done::marked(mark, Some(sent))
             }
         }
-        Part::Toggler(i) => (
-            if after.senders[i].enabled.is_some() {
-                'E'
-            } else {
-                'D'
-            },
-            None,
-        ),
-    };
-    Record {
-        time: before.clock,
-        part,
-        mark,
-        packet,
-        started,
+        Part::Toggler(i) => {
+            let on = after.senders[i].enabled.is_some();
+            Done::marked(if on { 'E' } else { 'D' }, None)
+        }
+        Part::Bouncer => unreachable!("{NO_TURN}"),
     }
 }
 
-/// The mark of a packet that left the line.
-fn left_mark(before: &Held, after: &Held, packet: &Packet, arrived: bool) -> char {
+fn name(packet: &Packet) -> Name {
+    Name {
+        sender: packet.sender,
+        sequence: packet.sequence,
+    }
+}
+
+/// One packet more waits for a line.
+fn admitted(before: &Held, after: &Held, l: usize) -> bool {
+    after.links[l].waiting.len() > before.links[l].waiting.len()
+}
+
+/// The mark of a packet that left line l: it reached a sender; or the bouncer, and through it the second
+/// link; or nobody.
+fn left_mark(before: &Held, after: &Held, l: usize, packet: &Packet, arrived: Arrived) -> char {
     let (was, is) = (
         &before.senders[packet.sender],
         &after.senders[packet.sender],
     );
-    if !arrived {
-        'L'
-    } else if is.meter.records > was.meter.records {
-        'C'
-    } else if was.enabled.is_some() {
-        'O'
-    } else {
-        'I'
+    match (arrived.at_senders, arrived.on_the_way) {
+        (0, 0) => ['L', 'N'][l],
+        (0, 2) => {
+            if admitted(before, after, 1) {
+                'P'
+            } else {
+                'Q'
+            }
+        }
+        (1, 0) => {
+            if is.meter.records > was.meter.records {
+                'C'
+            } else if was.enabled.is_some() {
+                'O'
+            } else {
+                'I'
+            }
+        }
+        _ => panic!("a tick of link {l} in which packets arrived: {arrived:?}"),
     }
 }

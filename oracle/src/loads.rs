@@ -80,10 +80,10 @@ impl Tally {
     }
 
     fn describe(&mut self, d: &Description) {
-        self.add(d.delay.to_bits());
-        self.add(d.rate.to_bits());
-        self.add(d.loss.to_bits());
-        match d.limit {
+        self.add(d.line.delay.to_bits());
+        self.add(d.line.rate.to_bits());
+        self.add(d.line.loss.to_bits());
+        match d.line.limit {
             None => self.add(0),
             Some(bits) => {
                 self.add(1);

@@ -5,7 +5,12 @@ mod loads;
 use std::io::{self, Read, Write};
 use std::process::ExitCode;
 
-use text::{description::Description, held::Held, lines::End, lines::Record};
+use text::{
+    description::Description,
+    held::Held,
+    lines::{End, Record},
+    script::{self, Asked},
+};
 
 /// The one packet size of the published files.
 const PUBLISHED_BITS: u64 = 11_200;
@@ -31,6 +36,7 @@ fn main() -> ExitCode {
         "run" => describe(States::None, always_patched),
         "held" => describe(States::Lines, always_patched),
         "digest" => describe(States::Digests, always_patched),
+        "script" => answer(always_patched),
         "loads" => loads(),
         "meters" => meters(),
         _ => return usage(),
@@ -49,36 +55,44 @@ fn ended(done: io::Result<()>) -> ExitCode {
 
 fn usage() -> ExitCode {
     eprintln!("usage: oracle run|held|digest [--patched] < description");
-    eprintln!("       oracle ticks COUNT < description");
+    eprintln!("       oracle script [--patched] < script");
+    eprintln!("       oracle ticks COUNT < description, or a line of a script");
     eprintln!("       oracle loads < list");
     eprintln!("       oracle meters < script");
     ExitCode::from(2)
 }
 
-/// The description on standard input, or the number of its stop.
-fn description() -> io::Result<Result<Description, u8>> {
+/// The text on standard input. One byte more than the reader takes, so that a longer text is seen to be longer.
+fn input() -> io::Result<Vec<u8>> {
     let mut text = Vec::new();
-    // One byte more than the reader takes, so that a longer text is seen to be longer.
     io::stdin().take(4097).read_to_end(&mut text)?;
-    let Some(description) = Description::read(&text) else {
-        return Ok(Err(15));
-    };
-    Ok(match description.refused() {
-        Some(number) => Err(number),
-        None => Ok(description),
-    })
+    Ok(text)
+}
+
+/// The description on standard input, or the stop of a malformed text.
+fn description() -> io::Result<Result<Description, u8>> {
+    Ok(Description::read(&input()?).ok_or(15))
 }
 
 fn describe(states: States, always_patched: bool) -> io::Result<()> {
     let mut out = io::BufWriter::new(io::stdout().lock());
-    let description = match description()? {
-        Ok(description) => description,
-        Err(number) => return writeln!(out, "stop={number}"),
-    };
+    match description()? {
+        Ok(description) => lines(&mut out, &description, states, always_patched),
+        Err(number) => writeln!(out, "stop={number}"),
+    }
+}
+
+/// The lines of a run.
+fn lines(
+    out: &mut impl Write,
+    description: &Description,
+    states: States,
+    always_patched: bool,
+) -> io::Result<()> {
     let mut shown = Ok(());
-    let ended = play(&description, always_patched, &mut |record, held| {
+    let ended = play(description, always_patched, &mut |record, held| {
         if shown.is_ok() {
-            shown = show(&mut out, states, record, held);
+            shown = show(out, states, record, held);
         }
     });
     shown?;
@@ -88,12 +102,41 @@ fn describe(states: States, always_patched: bool) -> io::Result<()> {
     }
 }
 
+/// The networks of a script, answered as the port's program `held` does.
+fn answer(always_patched: bool) -> io::Result<()> {
+    let mut out = io::BufWriter::new(io::stdout().lock());
+    for line in io::stdin().lines() {
+        let line = line?;
+        if line.starts_with('#') {
+            continue;
+        }
+        let Some((asked, description)) = script::read(&line) else {
+            return Err(io::Error::other(format!("can't read the line `{line}`")));
+        };
+        match asked {
+            Asked::Lines => {
+                lines(&mut out, &description, States::Lines, always_patched)?;
+                writeln!(out)?;
+            }
+            Asked::Digest => {
+                let mut text = vec![];
+                lines(&mut text, &description, States::Digests, always_patched)?;
+                writeln!(out, "lines {:016x}", fnv_1a(&text))?;
+            }
+        }
+    }
+    Ok(())
+}
+
 /// The published files as they are where they can be, the patched copy for any other packet sizes.
 fn play(
     description: &Description,
     always_patched: bool,
     watch: &mut dyn FnMut(Option<&Record>, &Held),
 ) -> Result<End, u8> {
+    if let Some(number) = description.refused() {
+        return Err(number);
+    }
     if has_published_size(description) && !always_patched {
         published::session::play(description, watch)
     } else {
@@ -130,15 +173,28 @@ fn fnv_1a(bytes: &[u8]) -> u64 {
     })
 }
 
+/// The network on standard input: a description, or a line of a script, which may have a return line.
+fn network() -> io::Result<Result<Description, u8>> {
+    let text = input()?;
+    let line = std::str::from_utf8(&text).ok().map(str::trim_end);
+    Ok(match line.and_then(script::read) {
+        Some((_, description)) => Ok(description),
+        None => Description::read(&text).ok_or(15),
+    })
+}
+
 /// The published files as they are, with nothing of the harness between the ticks.
 fn ticks(count: &str) -> io::Result<()> {
     let count = count.parse().map_err(io::Error::other)?;
-    let done = match description()? {
-        Ok(description) if !has_published_size(&description) => {
-            return Err(io::Error::other("ticks takes packets of 11200 bits"));
-        }
-        Ok(description) => published::session::ticks(&description, count),
+    let done = match network()? {
         Err(number) => Err(number),
+        Ok(description) => match description.refused() {
+            Some(number) => Err(number),
+            None if has_published_size(&description) => {
+                published::session::ticks(&description, count)
+            }
+            None => return Err(io::Error::other("ticks takes packets of 11200 bits")),
+        },
     };
     match done {
         Ok(done) => {

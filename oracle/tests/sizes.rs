@@ -1,7 +1,7 @@
 //! Packet bits of each sender (document 02, K1), which only the patched copy has.
 
 use text::{
-    description::{Description, Distribution, Policy},
+    description::{Description, Distribution, Line, Policy},
     held::Held,
     lines::{End, Record},
 };
@@ -10,10 +10,13 @@ type Play = fn(&Description, &mut dyn FnMut(Option<&Record>, &Held)) -> Result<E
 
 fn three(bits: Vec<u64>, rate: f64) -> Description {
     Description {
-        delay: 0.375,
-        rate,
-        loss: 0.0625,
-        limit: Some(10 * bits[0]),
+        line: Line {
+            delay: 0.375,
+            rate,
+            loss: 0.0625,
+            limit: Some(10 * bits[0]),
+        },
+        back: None,
         bits,
         senders: 3,
         on: Distribution::Uniform(5., 9.),
@@ -51,7 +54,7 @@ fn each_its_own() {
     let (bits, rate) = (vec![8, 4, 6], 64.);
     let mut started = [0; 3];
     let end = patched::session::play(&three(bits.clone(), rate), &mut |record, held| {
-        let link = &held.link;
+        let link = &held.links[0];
         let carried = link.waiting.iter().map(|waiting| waiting.bits);
         assert_eq!(link.bits, carried.sum());
         for waiting in &link.waiting {

@@ -1,14 +1,17 @@
 //! The two stops that no description text can reach, since a text has at most 65,536 ticks.
 
-use text::description::{two_to, Description, Distribution, Policy};
+use text::description::{two_to, Description, Distribution, Line, Policy};
 
 /// One sender whose packets the line always drops.
 fn dropped(seconds: f64, window: u32, ticks: u32) -> Description {
     Description {
-        delay: 0.,
-        rate: 1.,
-        loss: 0.,
-        limit: Some(0),
+        line: Line {
+            delay: 0.,
+            rate: 1.,
+            loss: 0.,
+            limit: Some(0),
+        },
+        back: None,
         bits: vec![11_200],
         senders: 1,
         on: Distribution::Always(seconds),

@@ -1,5 +1,5 @@
 //! The description of a network: document 01's eleven lines with document 02's `bits` line (K1), and the
-//! ranges of stops 1 to 7.
+//! ranges of stops 1 to 7 and 20. A return line (K4) has no text; `script.rs` reads it.
 
 use crate::double;
 
@@ -25,12 +25,20 @@ pub enum Policy {
     Timed { most: u32, gap: f64 },
 }
 
-#[derive(Clone, Debug, PartialEq)]
-pub struct Description {
+/// The values of a line.
+#[derive(Clone, Copy, Debug, PartialEq)]
+pub struct Line {
     pub delay: f64,
     pub rate: f64,
     pub loss: f64,
     pub limit: Option<u64>,
+}
+
+#[derive(Clone, Debug, PartialEq)]
+pub struct Description {
+    pub line: Line,
+    /// The return line, if there is one.
+    pub back: Option<Line>,
     /// One value for all senders, or one for each.
     pub bits: Vec<u64>,
     pub senders: u32,
@@ -59,13 +67,16 @@ impl Description {
         };
         let senders = decimal_32(field(5, "senders")?)?;
         Some(Description {
-            delay: double(field(0, "delay")?)?,
-            rate: double(field(1, "rate")?)?,
-            loss: double(field(2, "loss")?)?,
-            limit: match field(3, "limit")? {
-                "none" => None,
-                bits => Some(decimal(bits)?),
+            line: Line {
+                delay: double(field(0, "delay")?)?,
+                rate: double(field(1, "rate")?)?,
+                loss: double(field(2, "loss")?)?,
+                limit: match field(3, "limit")? {
+                    "none" => None,
+                    bits => Some(decimal(bits)?),
+                },
             },
+            back: None,
             bits: bits(field(4, "bits")?, senders)?,
             senders,
             on: distribution(field(6, "on")?)?,
@@ -82,22 +93,38 @@ impl Description {
         values.cycle().take(self.senders as usize)
     }
 
-    /// The lowest of stops 1 to 7 that holds.
+    /// The first of stops 1 to 7 and 20 that holds.
     pub fn refused(&self) -> Option<u8> {
+        let [delay, rate, loss, limit] = self.line.fit();
+        let senders = self.senders <= MOST_SENDERS
+            && self.sender_bits().all(|bits| (1..=1 << 24).contains(&bits));
+        let times = self.on.fit() && self.off.fit();
+        let back = self.back.is_none_or(|line| line.fit() == [true; 4]);
         let fit = [
+            (1, delay),
+            (2, rate),
+            (3, loss),
+            (4, limit),
+            (5, senders),
+            (6, times),
+            (7, self.policy.fit()),
+            (20, back),
+        ];
+        fit.into_iter()
+            .find(|(_, fit)| !fit)
+            .map(|(number, _)| number)
+    }
+}
+
+impl Line {
+    /// The ranges of 1 to 4.
+    fn fit(self) -> [bool; 4] {
+        [
             within(0., self.delay, two_to(20)),
             within(1., self.rate, two_to(50)),
             within(0., self.loss, 1.),
             self.limit.is_none_or(|limit| limit <= 1 << 50),
-            self.senders <= MOST_SENDERS
-                && self.sender_bits().all(|bits| (1..=1 << 24).contains(&bits)),
-            self.on.fit() && self.off.fit(),
-            self.policy.fit(),
-        ];
-        (1..)
-            .zip(fit)
-            .find(|(_, fit)| !fit)
-            .map(|(number, _)| number)
+        ]
     }
 }
 

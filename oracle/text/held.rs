@@ -71,7 +71,8 @@ pub struct Link {
 pub struct Held {
     pub clock: f64,
     pub next: Option<usize>,
-    pub link: Link,
+    /// The link, and where there is a return line the second one.
+    pub links: Vec<Link>,
     pub senders: Vec<Sender>,
     pub togglers: Vec<Toggler>,
     pub queue: Vec<Option<f64>>,
@@ -87,12 +88,17 @@ impl Held {
                 "next={}",
                 self.next.map_or("-".into(), |part| part.to_string())
             ),
-            format!("earliest={}", hex(self.link.earliest)),
-            format!("bits={}", self.link.bits),
-            format!("waiting={}", list(&self.link.waiting, waiting)),
-            format!("line={}", list(&self.link.line, transit)),
-            format!("link={}", words(&self.link.words)),
         ];
+        for (l, link) in self.links.iter().enumerate() {
+            if l == 1 {
+                fields.push("return".to_string());
+            }
+            fields.push(format!("earliest={}", hex(link.earliest)));
+            fields.push(format!("bits={}", link.bits));
+            fields.push(format!("waiting={}", list(&link.waiting, waiting)));
+            fields.push(format!("line={}", list(&link.line, transit)));
+            fields.push(format!("link={}", words(&link.words)));
+        }
         for (i, (sender, toggler)) in self.senders.iter().zip(&self.togglers).enumerate() {
             fields.push(format!(
                 "sender={i}:{}:{}:{}",

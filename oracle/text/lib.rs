@@ -1,9 +1,11 @@
 //! What goes in and out of the oracle as text, free of FlowForge's types: the description of a
-//! network with document 01's reader and ranges, the lines of a run, and the held state.
+//! network with document 01's reader and ranges, a network as a line of a script, the lines of a run,
+//! and the held state.
 
 pub mod description;
 pub mod held;
 pub mod lines;
+pub mod script;
 
 /// A double as 16 lower-case hexadecimal digits of its bits. Every NaN has one form.
 pub fn hex(value: f64) -> String {

@@ -1,14 +1,28 @@
 // Beside the published packet.rs.
 
+/// Two parts.
+#[derive(Clone, Copy, Debug, PartialEq)]
+pub struct Ends {
+    pub source: usize,
+    pub destination: usize,
+}
+
 impl<'sim, E> Packet<'sim, E> {
-    /// The part that sent it. An address is a closure, so one asks it where a message would go.
-    pub fn source_part(&self) -> usize {
-        let copy = Packet {
-            source: self.source.clone(),
-            destination: self.destination.clone(),
-            ..*self
+    /// The parts that it comes from and goes to. An address is a closure, so one asks it where a
+    /// message would go.
+    pub fn ends(&self) -> Ends {
+        let part = |address: &PacketAddress<'sim, E>| {
+            let copy = Packet {
+                source: self.source.clone(),
+                destination: self.destination.clone(),
+                ..*self
+            };
+            address.create_message(copy).destination().part()
         };
-        self.source.create_message(copy).destination().part()
+        Ends {
+            source: part(&self.source),
+            destination: part(&self.destination),
+        }
     }
 
     pub fn sequence(&self) -> u64 {
