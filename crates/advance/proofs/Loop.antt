@@ -1,12 +1,13 @@
 -- What each arm of the loop knows and stores: the turn, what is in range, and the state as it is stored. One variable and one equation for each call. Assumes nothing.
 use mathlib.Core.Path.{_≡_, refl, sym, ap, subst, _∙_}
-use mathlib.Core.Bool.{Bool, true, false, cond}
+use mathlib.Core.Bool.{Bool, true, false, cond, true≢false}
 use mathlib.Core.List.{List}
-use Prim.Native.Nat.{ℕ, _+_, _*_, _<_, _^_}
+use Prim.Native.Nat.{ℕ, zero, suc, _+_, _*_, _≤_, _<_, _^_}
+use native.Mathlib.Nat.{zero-add}
 use native.Mathlib.Omega.{arith}
 use lib.ListN.{length, getD, set}
 use lib.Seq.{getD-set-same}
-use lib.Dec.{ltb, leb}
+use lib.Dec.{ltb, leb, eqb}
 use borrow.Author.Tests.{ltb-true}
 use Rattle.quantities.specs.declared.time.Time.{Time}
 use Rattle.quantities.specs.declared.time_span.TimeSpan.{TimeSpan}
@@ -19,27 +20,31 @@ use Rattle.link.specs.declared.packet.Waiting.{Waiting}
 use Rattle.link.specs.declared.packet.Transit.{Transit}
 use Rattle.link.specs.declared.link.Limit.{Limit}
 use Rattle.link.specs.declared.link.Line.{Line}
+use Rattle.link.specs.declared.link.Left.the-variants as Left
 use Rattle.link.specs.declared.link.Arrival.{Arrival}
 use Rattle.link.specs.declared.link.Transmitted.{Transmitted}
 use Rattle.sender.specs.declared.lossy.LossySender.{LossySender}
 use Rattle.toggler.specs.declared.toggler.Toggled.{Toggled}
 use Rattle.toggler.specs.declared.tick_queue.Queued.{Queued}
 use Rattle.toggler.specs.declared.tick_queue.Picked.{Picked}
-use Rattle.link.specs.Ring.{places}
-use Rattle.link.specs.Link.{admits, admitted, receiveOf, isFree, tryDeliver, tryTransmit}
+use Rattle.link.specs.Ring.{places, slotOf}
+use Rattle.link.specs.Link.{admits, receiveOf, isFree, tryDeliver, tryTransmit}
 use Rattle.toggler.specs.Toggler.{toggleOf}
 use Rattle.toggler.specs.Queue.{noQueued, pickOf}
+use Rattle.remy.specs.declared.network.RemyNetwork.{RemyNetwork}
 use Rattle.remy.specs.declared.simulation.Head.{Head}
 use Rattle.remy.specs.declared.simulation.Simulation.{Simulation}
 use Rattle.remy.specs.declared.simulation.TickRecord.{TickRecord}
-use Rattle.remy.specs.State.{Role, link, sender, toggler, noWaiting, noTransit, noSender, noToggler, senderAt, togglerAt, meterAt, frontOf, firstOf, senderBits}
-use Rattle.remy.specs.Queue.{headOf}
+use Rattle.remy.specs.State.{hasBack, lineCount, valuesOf, Role, link, sender, toggler, noWaiting, noTransit, noSender, noToggler, lineAt, senderAt, togglerAt, meterAt, frontOf, firstOf, senderBits, packetBits}
+use Rattle.remy.specs.Queue.{partOf, headOf}
 use Rattle.remy.specs.Fit.{fit}
 use Rattle.remy.specs.HeldTimes.{Full}
-use Rattle.remy.specs.Tick.{moves, outcomeOf, unmoved, ticked, tickOf}
+use Rattle.remy.specs.Tick.{toBouncer, moves, stops, outcomeOf, unmoved, ticked, tickOf}
+use Rattle.remy.proofs.Facts.{first-there, second-there, lines-few}
 use Rattle.remy.proofs.Steps.{cond-elim}
 use Rattle.queueing.specs.declared.Now.{Now}
 use Rattle.queueing.specs.declared.Now.the-variants as Now
+use Rattle.turns.specs.declared.LinkValues.{LinkValues}
 use Rattle.turns.specs.declared.LinkActed.{LinkActed}
 use Rattle.turns.specs.declared.Hearing.{Hearing}
 use Rattle.turns.specs.declared.Sending.{Sending}
@@ -47,46 +52,54 @@ use Rattle.turns.specs.declared.Sending.the-variants as Sending
 use Rattle.turns.specs.declared.SenderActed.{SenderActed}
 use Rattle.turns.specs.declared.Arriving.{Arriving}
 use Rattle.queueing.specs.Queueing.{nowOf, linkSlot, senderSlot, placeAfterPick, togglerSlot}
-use Rattle.turns.specs.Turns.{ownerOf, linkActed, onLineAt, heardBy, linkNote, togglerNote, switchedTo, senderActed, arrivedAt, waitingAt, senderNote}
+use Rattle.turns.specs.Turns.{ownerOf, linkValues, linkActed, onLineAt, passedOn, heardBy, linkNote, togglerNote, switchedTo, senderActed, arrivedAt, waitingAt, senderNote}
 use Rattle.turns.proofs.InRange.{on-line-range}
-use Rattle.advance.proofs.Arms.{link-state, sender-state, toggler-state, link-moves, sender-moves, toggler-moves}
-use Rattle.advance.proofs.Ticks.{TickAs, now-tick, InPlace, in-place, room, own-packet}
+use Rattle.advance.proofs.Arms.{acted-state, heard-state, bounced-state, arrived-state, sender-state, toggler-state, goes-on, home-moves, pass-moves, pass-stops, sender-moves, toggler-moves}
+use Rattle.advance.proofs.Ticks.{TickAs, now-tick, senders-few, room, own-packet}
 
 -- ---- whose turn it is
 
+-- of the link of line l
+pub record LinkTurn (s : Simulation) (l : ℕ) : Type 0 where
+  pub fits : fit s ≡ true
+  pub there : l < lineCount (s .network)
+  pub below : l < 2
+  pub few : s .network .senders ≤ 16
+  pub tick : tickOf s ≡ ticked s (outcomeOf s (link l))
+
+-- of the part with this role, of sender i
 pub record Turn (s : Simulation) (role : Role) (i : ℕ) : Type 0 where
   pub fits : fit s ≡ true
+  pub inside : i < s .network .senders
   pub below : i < 16
   pub tick : tickOf s ≡ ticked s (outcomeOf s role)
-  pub place : InPlace s
 
-module _ (s : Simulation) (b : Bool) (f : b ≡ fit s) (t : Now) (g : t ≡ nowOf b (s .head) (s .network .senders)) where
+-- the first line is there, and the return line where there is one
+pub first-line : (n : RemyNetwork) → 0 < lineCount n
+first-line n = first-there (hasBack (n .back))
+
+module _ (s : Simulation) (b : Bool) (f : b ≡ fit s) (t : Now) (g : t ≡ nowOf b (s .head) (s .network .senders) (hasBack (s .network .back))) where
   turn-as : (w : Now) → t ≡ w → TickAs s w
-  turn-as w e = subst (TickAs s) e (now-tick s t (g ∙ ap (λ (x : Bool). nowOf x (s .head) (s .network .senders)) f))
+  turn-as w e = subst (TickAs s) e (now-tick s t (g ∙ ap (λ (x : Bool). nowOf x (s .head) (s .network .senders) (hasBack (s .network .back))) f))
 
   pub no-turn : (k : ℕ) → t ≡ Now.Stop k → tickOf s ≡ unmoved s k
   no-turn k e = turn-as (Now.Stop k) e
 
-  pub link-turn : t ≡ Now.Link → Turn s link 0
-  link-turn e = let r = turn-as Now.Link e in record { fits = r .0; below = omega arith; tick = r .1; place = in-place s (r .0) }
+  pub link-turn : (l : ℕ) → t ≡ Now.Link l → LinkTurn s l
+  link-turn l e =
+      let r = turn-as (Now.Link l) e in
+      let inside = r .1 in
+      record { fits = r .0; there = inside; below = omega (arith, lines-few (hasBack (s .network .back)), inside); few = senders-few s (r .0); tick = r .2 }
+
+  -- by a turn of the part with this role
+  part-turn : (role : Role) (i : ℕ) → (fit s ≡ true) × (i < s .network .senders) × (tickOf s ≡ ticked s (outcomeOf s role)) → Turn s role i
+  part-turn role i r = let inside = r .1 in record { fits = r .0; inside = inside; below = omega (arith, senders-few s (r .0), inside); tick = r .2 }
 
   pub sender-turn : (i : ℕ) → t ≡ Now.Sender i → Turn s (sender i) i
-  sender-turn i e =
-      let r = turn-as (Now.Sender i) e in
-      let p = in-place s (r .0) in
-      let few = p .senders in
-      let inside = r .1 in record { fits = r .0; below = omega (arith, few, inside); tick = r .2; place = p }
-
-  -- a packet that it sends finds room
-  pub sender-room : (i : ℕ) → t ≡ Now.Sender i → s .line .«buffer_contains» .0 + senderBits (s .network) i .0 < 2 ^ 64
-  sender-room i e = let r = turn-as (Now.Sender i) e in room s (r .0) i (r .1)
+  sender-turn i e = part-turn (sender i) i (turn-as (Now.Sender i) e)
 
   pub toggler-turn : (i : ℕ) → t ≡ Now.Toggler i → Turn s (toggler i) i
-  toggler-turn i e =
-      let r = turn-as (Now.Toggler i) e in
-      let p = in-place s (r .0) in
-      let few = p .senders in
-      let inside = r .1 in record { fits = r .0; below = omega (arith, few, inside); tick = r .2; place = p }
+  toggler-turn i e = part-turn (toggler i) i (turn-as (Now.Toggler i) e)
 
 -- ---- what is in range
 
@@ -105,37 +118,104 @@ module _ (l : Line) (clock : Time) (first : Waiting) (delay : TimeSpan) (rate : 
       let P : Transmitted → Type 0 = λ t. t .line .«on_line» .start ≡ l .«on_line» .start in
       cond-elim P (isFree l clock) _ _ (λ a. cond-elim P (leb places (l .«on_line» .count)) _ _ (λ b. refl) (λ b. refl)) (λ a. refl)
 
-module _ (s : Simulation) (p : InPlace s) (c : LinkActed) (e : c ≡ linkActed (s .network) (s .line) (s .head .clock) (frontOf s) (firstOf s)) where
-  pub link-at : c .at < 512
+module _ (v : LinkValues) (x : Line) (clock : Time) (front : Transit) (first : Waiting) (c : LinkActed) (e : c ≡ linkActed v x clock front first) where
+  pub link-at : c .at < places
   unfolding linkActed
-  link-at = subst (λ (x : LinkActed). x .at < 512) (sym e) (omega arith)
+  link-at = subst (λ (y : LinkActed). y .at < places) (sym e) (omega arith)
 
-  pub link-start : c .line .«on_line» .start < 512
+  pub link-start : x .«on_line» .start < places → x .«on_line» .count ≤ places → c .line .«on_line» .start < places
   unfolding linkActed
-  link-start =
-      let d = tryDeliver (s .line) (s .head .clock) (frontOf s) (s .network .loss) in
-      subst (λ (x : LinkActed). x .line .«on_line» .start < 512) (sym e)
-      (subst (λ (x : ℕ). x < 512) (sym (keeps-start (d .line) (s .head .clock) (firstOf s) (spanOf (s .network .delay)) (rateOf (s .network .rate))))
-      (on-line-range (s .line) (s .head .clock) (frontOf s) (s .network .loss) (p .on-line-start) (p .on-line-count) .0))
+  link-start start count =
+      subst (λ (y : LinkActed). y .line .«on_line» .start < places) (sym e)
+      (subst (λ (y : ℕ). y < places) (sym (keeps-start (tryDeliver x clock front (v .loss) .line) clock first (spanOf (v .delay)) (rateOf (v .rate)))) (on-line-range x clock front (v .loss) start count .0))
 
-module _ (limit : Limit) (bits : ℕ) (l : Line) (x : Sending) (b : Arriving) (e : b ≡ arrivedAt limit bits l x) where
-  pub arrive-at : b .at < 512
+module _ (l : ℕ) (limit : Limit) (bits : ℕ) (x : Line) (sending : Sending) (b : Arriving) (e : b ≡ arrivedAt l limit bits x sending) where
+  pub arrive-at : b .at < places
   unfolding arrivedAt
-  arrive-at = subst (λ (y : Arriving). y .at < 512) (sym e) (by x)
+  arrive-at = subst (λ (y : Arriving). y .at < places) (sym e) (by sending)
     where
-      by : (x : Sending) → arrivedAt limit bits l x .at < 512
-      by Sending.Timer = omega arith
+      by : (w : Sending) → arrivedAt l limit bits x w .at < places
+      by Sending.Nothing = omega arith
       by (Sending.Packet p) = omega arith
 
-  pub arrive-start : l .«on_line» .start < 512 → b .line .«on_line» .start < 512
+  pub arrive-start : x .«on_line» .start < places → b .line .«on_line» .start < places
   unfolding arrivedAt receiveOf
-  arrive-start h = subst (λ (y : Arriving). y .line .«on_line» .start < 512) (sym e) (by x)
+  arrive-start h = subst (λ (y : Arriving). y .line .«on_line» .start < places) (sym e) (by sending)
     where
-      by : (x : Sending) → arrivedAt limit bits l x .line .«on_line» .start < 512
-      by Sending.Timer = h
+      by : (w : Sending) → arrivedAt l limit bits x w .line .«on_line» .start < places
+      by Sending.Nothing = h
       by (Sending.Packet p) =
-          let P : Arrival → Type 0 = λ a. a .line .«on_line» .start < 512 in
-          cond-elim P (admits limit (l .«buffer_contains») (amountOf bits)) _ _ (λ t. cond-elim P (leb places (l .waiting .count)) _ _ (λ u. h) (λ u. h)) (λ t. h)
+          let P : Arrival → Type 0 = λ a. a .line .«on_line» .start < places in
+          cond-elim P (admits limit (x .«buffer_contains») (amountOf bits)) _ _ (λ t. cond-elim P (leb places (x .waiting .count)) _ _ (λ u. h) (λ u. h)) (λ t. h)
+
+-- ---- a packet that is passed on
+
+-- only the first line's are, where there is a return line
+only-first : (n : RemyNetwork) (l : ℕ) → toBouncer n l ≡ true → (l ≡ 0) × (hasBack (n .back) ≡ true)
+only-first n zero e = (refl, e)
+only-first n (suc l) e = absurd (true≢false (sym e))
+
+module _ (s : Simulation) (full : Full s) (l : ℕ) (t : LinkTurn s l) (k : ℕ) (ek : k ≡ ownerOf (frontOf s l .packet))
+    (c : LinkActed) (ec : c ≡ linkActed (linkValues (valuesOf (s .network) l)) (lineAt s l) (s .head .clock) (frontOf s l) (firstOf s l))
+    (w : Sending) (ew : w ≡ passedOn (s .network) l (c .left)) (p : Packet) (wp : w ≡ Sending.Packet p) where
+  pub passes-out : c .left ≡ Left.Out p
+  passes-out = goes-on (s .network) l (c .left) p (sym ew ∙ wp) .0
+
+  passes-to : toBouncer (s .network) l ≡ true
+  passes-to = goes-on (s .network) l (c .left) p (sym ew ∙ wp) .1
+
+  passes-other : 1 ≡ l → ⊥
+  passes-other e = let first = only-first (s .network) l passes-to .0 in omega (arith, first, e)
+
+  pub second-line : 1 < lineCount (s .network)
+  second-line = second-there (hasBack (s .network .back)) (only-first (s .network) l passes-to .1)
+
+  passes-own : packetBits (s .network) p .0 ≡ senderBits (s .network) k .0
+  passes-own = ap (λ (j : ℕ). senderBits (s .network) j .0) (own-packet s (t .fits) full l (t .there) k ek c ec p passes-out .0)
+
+  -- it finds room in the waiting bits of the return line
+  pub passes-room : lineAt s 1 .«buffer_contains» .0 + senderBits (s .network) k .0 < 2 ^ 64
+  passes-room = room s (t .fits) full 1 second-line k (own-packet s (t .fits) full l (t .there) k ek c ec p passes-out .1)
+
+  module _ (z : c .number ≡ 0) (b : Arriving) (eb : b ≡ arrivedAt 1 (valuesOf (s .network) 1 .limit) (senderBits (s .network) k .0) (lineAt s 1) w) where
+    arrives-so : b ≡ arrivedAt 1 (valuesOf (s .network) 1 .limit) (senderBits (s .network) k .0) (lineAt s 1) (Sending.Packet p)
+    arrives-so = eb ∙ ap (arrivedAt 1 (valuesOf (s .network) 1 .limit) (senderBits (s .network) k .0) (lineAt s 1)) wp
+
+    pub pass-stopped : eqb (b .number) 0 ≡ false → outcomeOf s (link l) ≡ stops (b .number)
+    pass-stopped y = pass-stops s l (full .lines) (t .below) c ec p z passes-out passes-to passes-other (senderBits (s .network) k .0) passes-own b arrives-so y
+
+    arrives-true : b .arrives ≡ true
+    unfolding arrivedAt
+    arrives-true = ap (λ (x : Arriving). x .arrives) arrives-so
+
+    pub pass-stored : b .number ≡ 0 → (new : Transit) → new ≡ onLineAt (c .begun) (getD (s .«on_line») (slotOf l (c .at)) noTransit)
+        → (place : ℕ) → place ≡ partOf (s .network .senders) (link l)
+        → (waits : Waiting) → waits ≡ waitingAt (b .admitted) (senderBits (s .network) k .0) w (getD (s .waiting) (slotOf 1 (b .at)) noWaiting)
+        → (q0 : Queued) → q0 ≡ linkSlot true (c .line) (s .head .clock) (getD (set (s .«on_line») (slotOf l (c .at)) new) (slotOf l (c .line .«on_line» .start)) noTransit) (getD (s .queue) place noQueued)
+        → let before = set (set (s .queue) place q0) (1 + 2 * s .network .senders) noQueued in
+        (q1 : Queued) → q1 ≡ linkSlot true (b .line) (s .head .clock) (getD (set (s .«on_line») (slotOf l (c .at)) new) (slotOf 1 (b .line .«on_line» .start)) noTransit) (getD before (2 + 2 * s .network .senders) noQueued)
+        → (best : Picked) → best ≡ pickOf (set before (2 + 2 * s .network .senders) q1)
+        → (x : Queued) → x ≡ placeAfterPick (best .time) (getD (set before (2 + 2 * s .network .senders) q1) (best .part) noQueued)
+        → (head : Head) → head ≡ headOf best (best .time)
+        → (note : TickRecord) → note ≡ linkNote (s .head .clock) place (c .left) (c .begun) (b .mark)
+        → tickOf s ≡ ticked s (moves note
+        (record {
+          network = s .network;
+          head = head;
+          lines = set (set (s .lines) l (c .line)) 1 (b .line);
+          waiting = set (s .waiting) (slotOf 1 (b .at)) waits;
+          «on_line» = set (s .«on_line») (slotOf l (c .at)) new;
+          senders = s .senders;
+          togglers = s .togglers;
+          meters = s .meters;
+          queue = set (set before (2 + 2 * s .network .senders) q1) (best .part) x;
+        }))
+    pass-stored y new en place ep waits es q0 e0 q1 e1 best eb x ex head ed note eo =
+        let bits = senderBits (s .network) k .0 in
+        let after = arrived-state (bounced-state (acted-state s l (slotOf l (c .at)) (c .line) (c .begun))) 1 bits (Sending.Packet p) b in
+        let same : set (set (set (s .queue) place q0) (1 + 2 * s .network .senders) noQueued) (2 + 2 * s .network .senders) q1 ≡ after .queue = rw (e1, e0, en, ep, arrives-true) in
+        rw (eo, ed, ex, e1, e0, es, wp, en, ep)
+        (t .tick ∙ ap (ticked s) (rw arrives-true at (pass-moves s l (full .lines) (t .below) c ec p z passes-out passes-to passes-other bits passes-own b arrives-so y best (eb ∙ ap pickOf same))))
 
 -- ---- what is stored
 
@@ -143,36 +223,38 @@ module _ (limit : Limit) (bits : ℕ) (l : Line) (x : Sending) (b : Arriving) (e
 stored-slot : {A : Type 0} (slot : A → Queued) (d : A) (l : List A) (n i : ℕ) → length l ≡ n → i < n → (x : A) (q : Queued) → q ≡ slot x → q ≡ slot (getD (set l i x) i d)
 stored-slot slot d l n i full inside x q e = e ∙ ap slot (sym (getD-set-same l i x d (omega (arith, inside, full))))
 
-module _ (s : Simulation) (full : Full s) (k : ℕ) (ek : k ≡ ownerOf (frontOf s .packet)) (t : Turn s link 0)
-    (c : LinkActed) (ec : c ≡ linkActed (s .network) (s .line) (s .head .clock) (frontOf s) (firstOf s)) (z : c .number ≡ 0)
-    (h : Hearing) (eh : h ≡ heardBy (s .network .policy) (senderBits (s .network) k .0) (s .head .clock) (c .left) (senderAt s k) (meterAt s k)) where
-  pub link-stored : (new : Transit) → new ≡ onLineAt (c .begun) (getD (s .«on_line») (c .at) noTransit)
-      → (q0 : Queued) → q0 ≡ linkSlot true (c .line) (s .head .clock) (getD (set (s .«on_line») (c .at) new) (c .line .«on_line» .start) noTransit) (getD (s .queue) 0 noQueued)
-      → (q1 : Queued) → q1 ≡ senderSlot (h .heard) (h .sender) (s .head .clock) (getD (set (s .queue) 0 q0) (1 + 2 * k) noQueued)
-      → (best : Picked) → best ≡ pickOf (set (set (s .queue) 0 q0) (1 + 2 * k) q1)
-      → (x : Queued) → x ≡ placeAfterPick (best .time) (getD (set (set (s .queue) 0 q0) (1 + 2 * k) q1) (best .part) noQueued)
+module _ (s : Simulation) (full : Full s) (l : ℕ) (t : LinkTurn s l) (k : ℕ) (ek : k ≡ ownerOf (frontOf s l .packet))
+    (c : LinkActed) (ec : c ≡ linkActed (linkValues (valuesOf (s .network) l)) (lineAt s l) (s .head .clock) (frontOf s l) (firstOf s l)) (z : c .number ≡ 0)
+    (w : Sending) (ew : w ≡ passedOn (s .network) l (c .left)) (home : w ≡ Sending.Nothing)
+    (h : Hearing) (eh : h ≡ heardBy (s .network .policy) (senderBits (s .network) k .0) (s .head .clock) l (c .left) (senderAt s k) (meterAt s k)) where
+  pub home-stored : (new : Transit) → new ≡ onLineAt (c .begun) (getD (s .«on_line») (slotOf l (c .at)) noTransit)
+      → (place : ℕ) → place ≡ partOf (s .network .senders) (link l)
+      → (q0 : Queued) → q0 ≡ linkSlot true (c .line) (s .head .clock) (getD (set (s .«on_line») (slotOf l (c .at)) new) (slotOf l (c .line .«on_line» .start)) noTransit) (getD (s .queue) place noQueued)
+      → (q1 : Queued) → q1 ≡ senderSlot (h .heard) (h .sender) (s .head .clock) (getD (set (s .queue) place q0) (1 + 2 * k) noQueued)
+      → (best : Picked) → best ≡ pickOf (set (set (s .queue) place q0) (1 + 2 * k) q1)
+      → (x : Queued) → x ≡ placeAfterPick (best .time) (getD (set (set (s .queue) place q0) (1 + 2 * k) q1) (best .part) noQueued)
       → (head : Head) → head ≡ headOf best (best .time)
-      → (note : TickRecord) → note ≡ linkNote (s .head .clock) (c .left) (c .begun) (h .mark)
+      → (note : TickRecord) → note ≡ linkNote (s .head .clock) place (c .left) (c .begun) (h .mark)
       → tickOf s ≡ ticked s (moves note
       (record {
         network = s .network;
         head = head;
-        line = c .line;
+        lines = set (s .lines) l (c .line);
         waiting = s .waiting;
-        «on_line» = set (s .«on_line») (c .at) new;
+        «on_line» = set (s .«on_line») (slotOf l (c .at)) new;
         senders = set (s .senders) k (h .sender);
         togglers = s .togglers;
         meters = set (s .meters) k (h .meter);
-        queue = set (set (set (s .queue) 0 q0) (1 + 2 * k) q1) (best .part) x;
+        queue = set (set (set (s .queue) place q0) (1 + 2 * k) q1) (best .part) x;
       }))
-  link-stored new en q0 e0 q1 e1 best eb x ex head ed note eo =
-      let stored = stored-slot (λ y. senderSlot (h .heard) y (s .head .clock) (getD (set (s .queue) 0 q0) (1 + 2 * k) noQueued)) noSender (s .senders) 16 k (full .senders) (owner-small (frontOf s .packet) k ek) (h .sender) q1 e1 in
-      let same : set (set (s .queue) 0 q0) (1 + 2 * k) q1 ≡ link-state s k (c .at) (c .line) (c .begun) h .queue = rw (stored, e0, en) in
-      rw (eo, ed, ex, stored, e0, en)
-      (t .tick ∙ ap (ticked s) (link-moves s k c ec (own-packet s (t .fits) (full .moving) k ek c ec) z h eh best (eb ∙ ap pickOf same)))
+  home-stored new en place ep q0 e0 q1 e1 best eb x ex head ed note eo =
+      let stored = stored-slot (λ y. senderSlot (h .heard) y (s .head .clock) (getD (set (s .queue) place q0) (1 + 2 * k) noQueued)) noSender (s .senders) 16 k (full .senders) (owner-small (frontOf s l .packet) k ek) (h .sender) q1 e1 in
+      let same : set (set (s .queue) place q0) (1 + 2 * k) q1 ≡ heard-state (acted-state s l (slotOf l (c .at)) (c .line) (c .begun)) k h .queue = rw (stored, e0, en, ep) in
+      rw (eo, ed, ex, stored, e0, en, ep)
+      (t .tick ∙ ap (ticked s) (home-moves s l (full .lines) (t .below) c ec z k (λ p o. own-packet s (t .fits) full l (t .there) k ek c ec p o .0) (sym ew ∙ home) h eh best (eb ∙ ap pickOf same)))
 
 module _ (s : Simulation) (full : Full s) (i : ℕ) (t : Turn s (sender i) i) (a : SenderActed) (ea : a ≡ senderActed (s .network) (s .head .clock) (senderAt s i) i) (y : a .number ≡ 0)
-    (b : Arriving) (eb : b ≡ arrivedAt (s .network .limit) (senderBits (s .network) i .0) (s .line) (a .sending)) (z : b .number ≡ 0) where
+    (b : Arriving) (eb : b ≡ arrivedAt 0 (s .network .line .limit) (senderBits (s .network) i .0) (lineAt s 0) (a .sending)) (z : b .number ≡ 0) where
   pub sender-stored : (new : Waiting) → new ≡ waitingAt (b .admitted) (senderBits (s .network) i .0) (a .sending) (getD (s .waiting) (b .at) noWaiting)
       → (q1 : Queued) → q1 ≡ senderSlot true (a .sender) (s .head .clock) (getD (s .queue) (1 + 2 * i) noQueued)
       → (q0 : Queued) → q0 ≡ linkSlot (b .arrives) (b .line) (s .head .clock) (getD (s .«on_line») (b .line .«on_line» .start) noTransit) (getD (set (s .queue) (1 + 2 * i) q1) 0 noQueued)
@@ -184,7 +266,7 @@ module _ (s : Simulation) (full : Full s) (i : ℕ) (t : Turn s (sender i) i) (a
       (record {
         network = s .network;
         head = head;
-        line = b .line;
+        lines = set (s .lines) 0 (b .line);
         waiting = set (s .waiting) (b .at) new;
         «on_line» = s .«on_line»;
         senders = set (s .senders) i (a .sender);
@@ -194,8 +276,8 @@ module _ (s : Simulation) (full : Full s) (i : ℕ) (t : Turn s (sender i) i) (a
       }))
   sender-stored new en q1 e1 q0 e0 best ep x ex head ed note eo =
       let stored = stored-slot (λ y. senderSlot true y (s .head .clock) (getD (s .queue) (1 + 2 * i) noQueued)) noSender (s .senders) 16 i (full .senders) (t .below) (a .sender) q1 e1 in
-      let same : set (set (s .queue) (1 + 2 * i) q1) 0 q0 ≡ sender-state s i a b .queue = rw (e0, stored) in
-      rw (eo, ed, ex, e0, stored, en) (t .tick ∙ ap (ticked s) (sender-moves s i a ea y b eb z best (ep ∙ ap pickOf same)))
+      let same : set (set (s .queue) (1 + 2 * i) q1) 0 q0 ≡ sender-state s i a b .queue = rw (e0, stored, zero-add (b .line .«on_line» .start)) in
+      rw (eo, ed, ex, e0, stored, en) (t .tick ∙ ap (ticked s) (rw (zero-add (b .at), zero-add (b .line .«on_line» .start)) at (sender-moves s (full .lines) i a ea y b eb z best (ep ∙ ap pickOf same))))
 
 module _ (s : Simulation) (full : Full s) (i : ℕ) (t : Turn s (toggler i) i) (g : Toggled) (eg : g ≡ toggleOf (togglerAt s i) (s .head .clock) (s .network .on) (s .network .off)) (y : g .number ≡ 0)
     (o : LossySender) (eo : o ≡ switchedTo (s .network .policy) (g .toggler .enabled) (senderAt s i) (s .head .clock))
@@ -210,7 +292,7 @@ module _ (s : Simulation) (full : Full s) (i : ℕ) (t : Turn s (toggler i) i) (
       (record {
         network = s .network;
         head = head;
-        line = s .line;
+        lines = s .lines;
         waiting = s .waiting;
         «on_line» = s .«on_line»;
         senders = set (s .senders) i o;

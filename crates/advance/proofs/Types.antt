@@ -17,6 +17,7 @@ use Rattle.quantities.specs.NewTime.{Double}
 use Rattle.quantities.proofs.time.Time as T
 use Rattle.quantities.proofs.time.OptionTime as O
 use Rattle.link.specs.declared.packet.Transit.{Transit}
+use Rattle.link.proofs.link.Line as Line
 use Rattle.link.proofs.packet.Waiting as Waiting
 use Rattle.link.proofs.packet.Transit as Transit
 use Rattle.meters.proofs.meter.AverageFlowMeter as Meter
@@ -31,7 +32,7 @@ use Rattle.toggler.proofs.tick_queue.Queued as Queued
 use Rattle.toggler.specs.Queue.{noQueued}
 use Rattle.remy.specs.declared.simulation.Simulation.{Simulation}
 use Rattle.remy.proofs.simulation.Simulation as Whole
-use Rattle.remy.specs.State.{noTransit, noSender, noToggler, onLineItems}
+use Rattle.remy.specs.State.{noTransit, noLine, noSender, noToggler, lineAt, onLineItems}
 use Rattle.remy.proofs.Facts.{holds}
 use Rattle.remy.proofs.Lists.{All, all-mapped, all-member, items-all}
 use Rattle.remy.specs.HeldTimes.{IfAny, timerOf, dueTimes}
@@ -82,28 +83,30 @@ typed s vs p =
     record {
       full =
           record {
-            waiting = full-array Waiting.the-field 512 (s .waiting) _ (p .1 .1 .1 .1 .1 .0);
-            moving = full-array Transit.the-field 512 (s .«on_line») _ (p .1 .1 .1 .1 .1 .1 .0);
+            lines = full-array Line.the-field 2 (s .lines) _ (p .1 .1 .1 .1 .0);
+            waiting = full-array Waiting.the-field 1024 (s .waiting) _ (p .1 .1 .1 .1 .1 .0);
+            moving = full-array Transit.the-field 1024 (s .«on_line») _ (p .1 .1 .1 .1 .1 .1 .0);
             senders = full-array Sender.the-field 16 (s .senders) _ (p .1 .1 .1 .1 .1 .1 .1 .0);
             togglers = full-array Toggler.the-field 16 (s .togglers) _ (p .1 .1 .1 .1 .1 .1 .1 .1 .0);
             meters = full-array Meter.the-field 16 (s .meters) _ (p .1 .1 .1 .1 .1 .1 .1 .1 .1 .0);
-            queue = full-array Queued.the-field 33 (s .queue) _ (p .1 .1 .1 .1 .1 .1 .1 .1 .1 .1 .0);
+            queue = full-array Queued.the-field 35 (s .queue) _ (p .1 .1 .1 .1 .1 .1 .1 .1 .1 .1 .0);
           };
       clock = time-double (s .head .clock) _ (p .1 .1 .1 .0 .1 .1 .0);
       held =
           record {
-            free = time-double (s .line .«earliest_transmit») _ (p .1 .1 .1 .1 .0 .1 .1 .0);
-            due =
-                all-member Double (dueTimes s)
-                (all-mapped Double (λ x. x .due) (onLineItems s)
-                (items-all (λ x. Double (x .due)) noTransit (s .«on_line») (s .line .«on_line»)
-                (told-at Transit.the-field 512 (s .«on_line») _ (p .1 .1 .1 .1 .1 .1 .0) (λ x. Double (x .due)) noTransit (nan-fits binary64) (λ x us q. time-double (x .due) _ (q .1 .1 .1 .0)))));
+            free = λ l h.
+                told-at Line.the-field 2 (s .lines) _ (p .1 .1 .1 .1 .0) (λ x. Double (x .«earliest_transmit»)) noLine (nan-fits binary64) (λ x us q. time-double (x .«earliest_transmit») _ (q .1 .1 .0)) l;
+            due = λ l h.
+                all-member Double (dueTimes s l)
+                (all-mapped Double (λ x. x .due) (onLineItems s l)
+                (items-all (λ x. Double (x .due)) noTransit (s .«on_line») l (lineAt s l .«on_line»)
+                (told-at Transit.the-field 1024 (s .«on_line») _ (p .1 .1 .1 .1 .1 .1 .0) (λ x. Double (x .due)) noTransit (nan-fits binary64) (λ x us q. time-double (x .due) _ (q .1 .1 .1 .0)))));
             timer = λ i h.
                 told-at Sender.the-field 16 (s .senders) _ (p .1 .1 .1 .1 .1 .1 .1 .0) (λ x. IfAny Double (timerOf (x .state))) noSender tt (λ x us q. state-double (x .state) _ (q .1 .1 .1 .0)) i;
             toggle = λ i h.
                 told-at Toggler.the-field 16 (s .togglers) _ (p .1 .1 .1 .1 .1 .1 .1 .1 .0) (λ x. Double (x .«next_toggle»)) noToggler (nan-fits binary64)
                 (λ x us q. time-double (x .«next_toggle») _ (q .1 .1 .1 .0)) i;
             queued = λ j h.
-                told-at Queued.the-field 33 (s .queue) _ (p .1 .1 .1 .1 .1 .1 .1 .1 .1 .1 .0) (λ x. IfAny Double (x .time)) noQueued tt (λ x us q. option-double (x .time) _ (q .1 .1 .0)) j;
+                told-at Queued.the-field 35 (s .queue) _ (p .1 .1 .1 .1 .1 .1 .1 .1 .1 .1 .0) (λ x. IfAny Double (x .time)) noQueued tt (λ x us q. option-double (x .time) _ (q .1 .1 .0)) j;
           };
     }

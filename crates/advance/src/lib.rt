@@ -2,9 +2,13 @@
 ghost use mathlib.Core.Path.{_≡_};
 ghost use Rattle.remy.specs.Tick.{emptyRecord};
 ghost use Rattle.advance.specs.Advance.{advanceOf};
+use quantities::OptionTime;
 use queueing::Now;
+use ranges::lines::values_of;
 use remy::Simulation;
 use remy::TickRecord;
+use toggler::Queued;
+use turns::Sending;
 
 // What a number of ticks gives: how many were done, the last number, the last record, and the
 // simulation.
@@ -16,8 +20,10 @@ pub struct Advanced {
 }
 
 // Ticks until n are done, idle or refused. Each arm reads what its turn needs, works out what comes
-// of it, and stores it; where nothing changes, what was there is stored again. No tick changes the
-// network, so the senders' packet bits are read from a copy that is made once.
+// of it, and stores it; where nothing changes, what was there is stored again. A link's arm is for
+// either line l, whose packets lie in the places from 512 l on; a packet that the bouncer passes on to
+// the return line has a branch of its own there. No tick changes the network, so the senders' packet
+// bits are read from a copy that is made once.
 pub fn advance(simulation: Simulation, n: u32) -> Advanced
     ensures { λ r. ⌜ r ≡ advanceOf n 0 emptyRecord simulation ⌝ }
 {
@@ -31,9 +37,10 @@ pub fn advance(simulation: Simulation, n: u32) -> Advanced
         let fit = if steady { true } else { fitness::is_fit(st) };
         let network = st.network;
         let head = st.head;
-        let line = st.line;
         let clock = head.clock;
-        let now = queueing::whose_turn(fit, head, network.senders);
+        let first_values = network.line;
+        let back = network.back;
+        let now = queueing::whose_turn(fit, head, network.senders, back);
         match now {
             Now::Stop(number) => {
                 let empty = turns::empty_record();
@@ -44,12 +51,15 @@ pub fn advance(simulation: Simulation, n: u32) -> Advanced
                     simulation: st,
                 };
             }
-            Now::Link => {
-                let front_at = line.on_line.start;
-                let first_at = line.waiting.start;
+            Now::Link(l) => {
+                let line = st.lines[l];
+                let base = 512 * l;
+                let front_at = base + line.on_line.start;
+                let first_at = base + line.waiting.start;
                 let front = st.on_line[front_at];
                 let first = st.waiting[first_at];
-                let acts = turns::link_acts(network, line, clock, front, first);
+                let values = turns::values_at(network, l);
+                let acts = turns::link_acts(values, line, clock, front, first);
                 if acts.number != 0 {
                     let empty = turns::empty_record();
                     return Advanced {
@@ -59,44 +69,123 @@ pub fn advance(simulation: Simulation, n: u32) -> Advanced
                         simulation: st,
                     };
                 }
-                let receiver = turns::owner(front.packet);
-                let sender = st.senders[receiver];
-                let meter = st.meters[receiver];
                 let left = acts.left;
                 let begun = acts.begun;
                 let after = acts.line;
-                let at = acts.at;
-                let policy = network.policy;
-                let bits = sizes[receiver];
-                let hearing = turns::hear(policy, bits, clock, left, sender, meter);
-                let heard = hearing.sender;
-                let counted = hearing.meter;
+                let at = base + acts.at;
+                let front_after_at = base + after.on_line.start;
                 let old = st.on_line[at];
                 let new = turns::on_line_at(begun, old);
-                st.line = after;
-                st.on_line[at] = new;
-                st.senders[receiver] = heard;
-                st.meters[receiver] = counted;
-                let front_after_at = after.on_line.start;
-                let front_after = st.on_line[front_after_at];
-                let old_link = st.queue[0];
-                let link_slot = queueing::link_slot(true, after, clock, front_after, old_link);
-                st.queue[0] = link_slot;
-                let place = 1 + 2 * receiver;
-                let old_sender = st.queue[place];
-                let sender_slot = queueing::sender_slot(hearing.heard, heard, clock, old_sender);
-                st.queue[place] = sender_slot;
-                let queue = st.queue;
-                let best = toggler::tick_queue::pick(queue);
-                let part = best.part;
-                let old_best = st.queue[part];
-                let cleared = queueing::place_after(best, old_best);
-                let picked = queueing::head_of(best);
-                st.head = picked;
-                st.queue[part] = cleared;
-                let mark = hearing.mark;
-                note = turns::link_note(clock, left, begun, mark);
-                done += 1;
+                let place = queueing::link_part(l, network.senders);
+                let receiver = turns::owner(front.packet);
+                let bits = sizes[receiver];
+                let passing = turns::pass_on(network, l, left);
+                match passing {
+                    Sending::Packet(_) => {
+                        let second = st.lines[1];
+                        let second_values = values_of(first_values, back, 1);
+                        let limit = second_values.limit;
+                        let arrival = turns::arrive(1, limit, bits, second, passing);
+                        if arrival.number != 0 {
+                            let empty = turns::empty_record();
+                            return Advanced {
+                                done,
+                                number: arrival.number,
+                                note: empty,
+                                simulation: st,
+                            };
+                        }
+                        let passed = arrival.line;
+                        let waits_at = 512 + arrival.at;
+                        let old_waits = st.waiting[waits_at];
+                        let waits = turns::waiting_at(arrival.admitted, bits, passing, old_waits);
+                        st.lines[l] = after;
+                        st.on_line[at] = new;
+                        st.lines[1] = passed;
+                        st.waiting[waits_at] = waits;
+                        let front_after = st.on_line[front_after_at];
+                        let old_link = st.queue[place];
+                        let link_slot = queueing::link_slot(
+                            true,
+                            after,
+                            clock,
+                            front_after,
+                            old_link,
+                        );
+                        st.queue[place] = link_slot;
+                        let senders = network.senders as usize;
+                        let bouncer_place = 1 + 2 * senders;
+                        let no_time = Queued {
+                            time: OptionTime::None,
+                        };
+                        st.queue[bouncer_place] = no_time;
+                        let back_front_at = 512 + passed.on_line.start;
+                        let back_front = st.on_line[back_front_at];
+                        let back_place = 2 + 2 * senders;
+                        let old_back = st.queue[back_place];
+                        let back_slot = queueing::link_slot(
+                            true,
+                            passed,
+                            clock,
+                            back_front,
+                            old_back,
+                        );
+                        st.queue[back_place] = back_slot;
+                        let queue = st.queue;
+                        let best = toggler::tick_queue::pick(queue);
+                        let part = best.part;
+                        let old_best = st.queue[part];
+                        let cleared = queueing::place_after(best, old_best);
+                        let picked = queueing::head_of(best);
+                        st.head = picked;
+                        st.queue[part] = cleared;
+                        let mark = arrival.mark;
+                        note = turns::link_note(clock, place, left, begun, mark);
+                        done += 1;
+                    }
+                    Sending::Nothing => {
+                        let sender = st.senders[receiver];
+                        let meter = st.meters[receiver];
+                        let policy = network.policy;
+                        let hearing = turns::hear(policy, bits, clock, l, left, sender, meter);
+                        let heard = hearing.sender;
+                        let counted = hearing.meter;
+                        st.lines[l] = after;
+                        st.on_line[at] = new;
+                        st.senders[receiver] = heard;
+                        st.meters[receiver] = counted;
+                        let front_after = st.on_line[front_after_at];
+                        let old_link = st.queue[place];
+                        let link_slot = queueing::link_slot(
+                            true,
+                            after,
+                            clock,
+                            front_after,
+                            old_link,
+                        );
+                        st.queue[place] = link_slot;
+                        let sender_place = 1 + 2 * receiver;
+                        let old_sender = st.queue[sender_place];
+                        let sender_slot = queueing::sender_slot(
+                            hearing.heard,
+                            heard,
+                            clock,
+                            old_sender,
+                        );
+                        st.queue[sender_place] = sender_slot;
+                        let queue = st.queue;
+                        let best = toggler::tick_queue::pick(queue);
+                        let part = best.part;
+                        let old_best = st.queue[part];
+                        let cleared = queueing::place_after(best, old_best);
+                        let picked = queueing::head_of(best);
+                        st.head = picked;
+                        st.queue[part] = cleared;
+                        let mark = hearing.mark;
+                        note = turns::link_note(clock, place, left, begun, mark);
+                        done += 1;
+                    }
+                }
             }
             Now::Sender(i) => {
                 let sender = st.senders[i];
@@ -112,9 +201,10 @@ pub fn advance(simulation: Simulation, n: u32) -> Advanced
                 }
                 let sending = acts.sending;
                 let sent = acts.sender;
-                let limit = network.limit;
+                let line = st.lines[0];
+                let limit = first_values.limit;
                 let bits = sizes[i];
-                let arrival = turns::arrive(limit, bits, line, sending);
+                let arrival = turns::arrive(0, limit, bits, line, sending);
                 if arrival.number != 0 {
                     let empty = turns::empty_record();
                     return Advanced {
@@ -128,7 +218,7 @@ pub fn advance(simulation: Simulation, n: u32) -> Advanced
                 let at = arrival.at;
                 let old = st.waiting[at];
                 let new = turns::waiting_at(arrival.admitted, bits, sending, old);
-                st.line = after;
+                st.lines[0] = after;
                 st.waiting[at] = new;
                 st.senders[i] = sent;
                 let place = 1 + 2 * i;

@@ -23,11 +23,11 @@ module _ (n : RemyNetwork) (seed k : ℕ) (stop : k ≡ networkStop n) where
     few = few-senders (fit-network n (sym stop ∙ none))
 
     module _ (g : Rng) (c : Child) (m : Made) (seeded : g ≡ fromSeed seed) (first : c ≡ childOf g)
-        (made : toldParts m ≡ populate (n .senders) 0 (c .parent) (n .off) noParts) where
+        (made : toldParts m ≡ populate (n .senders) 0 (n .off) (noParts (c .parent))) where
       pub spent : (m .number ≡ 0 → ⊥) → notBuilt (m .number) ≡ buildOf n seed
       unfolding buildOf
       spent some = rw (← stop, none, ← seeded, ← first, ← made, ne-eqb _ _ some)
 
-      pub finished : m .number ≡ 0 → buildFrom n (c .child) (partsOf (m .senders) (m .togglers)) ≡ buildOf n seed
+      pub finished : m .number ≡ 0 → buildFrom n (c .child) (partsOf (m .root) (m .senders) (m .togglers)) ≡ buildOf n seed
       unfolding buildOf
       finished all = rw (← stop, none, ← seeded, ← first, ← made, all)

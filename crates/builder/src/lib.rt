@@ -1,6 +1,7 @@
-// The build (document 01, "Tick and history" and the rows 1 to 8 of "Stops"): a network and a seed
-// give a simulation with its first part picked, or the number of what is refused.
+// The build (document 01, "Tick and history" and the rows 1 to 8 of "Stops"; document 02, K4): a network
+// and a seed give a simulation with its first part picked, or the number of what is refused.
 ghost use mathlib.Core.Path.{_≡_};
+ghost use Prim.Native.Nat.{_≤_};
 ghost use Rattle.remy.specs.Build.{notBuilt, buildFrom, buildOf};
 ghost use Rattle.parts.specs.Parts.{partsOf};
 
@@ -10,6 +11,7 @@ mod state;
 use crate::queue::pick_next;
 use crate::queue::queue_all;
 use crate::state::fresh;
+use parts::back_words;
 use parts::make;
 use quantities::Time;
 use quantities::TimeSpan;
@@ -31,21 +33,27 @@ fn refuse(number: u32) -> Built
     Built { number, simulation }
 }
 
-// The build of a network with its parts made: each is queued, and the first is picked.
+// The build of a network with its parts made: the second link's generator is made of the root after
+// them, each part is queued, and the first is picked.
+//
+// A helper: `build` has tested the senders' number.
 fn finish(
     network: RemyNetwork,
     link: Rng,
+    root: Rng,
     senders: [LossySender; 16],
     togglers: [Toggler; 16],
 ) -> Built
-    ensures { λ r. ⌜ r ≡ buildFrom network link (partsOf senders togglers) ⌝ }
+    requires { ⌜ network .senders ≤ 16 ⌝ }
+    ensures { λ r. ⌜ r ≡ buildFrom network link (partsOf root senders togglers) ⌝ }
 {
     let clock = Time(TimeSpan(0.0));
     let head = Head {
         clock,
         next: Next::None,
     };
-    let bare = fresh(network, head, link, senders, togglers);
+    let back = back_words(network, root);
+    let bare = fresh(network, head, link, back, senders, togglers);
     let queued = queue_all(bare);
     let simulation = pick_next(queued);
     Built {
@@ -55,7 +63,7 @@ fn finish(
 }
 
 // The simulation that the network and the seed give, with its first part picked, and the number 0;
-// or the number of what is refused, 1 to 8, and the empty simulation.
+// or the number of what is refused, 1 to 8 or 20, and the empty simulation.
 pub fn build(network: RemyNetwork, seed: u64) -> Built
     ensures { λ r. ⌜ r ≡ buildOf network seed ⌝ }
 {
@@ -72,7 +80,8 @@ pub fn build(network: RemyNetwork, seed: u64) -> Built
     if made.number != 0 {
         return refuse(made.number);
     }
+    let last = made.root;
     let senders = made.senders;
     let togglers = made.togglers;
-    finish(network, link, senders, togglers)
+    finish(network, link, last, senders, togglers)
 }

@@ -5,6 +5,7 @@ ghost use Rattle.parts.specs.Parts.{partsOf};
 use meters::AverageFlowMeter;
 use parts::blank_transit;
 use parts::blank_waiting;
+use parts::blank_words;
 use parts::empty_network;
 use parts::empty_words;
 use parts::new_line;
@@ -20,31 +21,35 @@ use sender::LossySender;
 use toggler::Queued;
 use toggler::Toggler;
 
-// A simulation in which nothing was sent, waits, moves, was counted or is queued.
+// A simulation in which nothing was sent, waits, moves, was counted or is queued, with the generators
+// of its two links.
 pub(crate) fn fresh(
     network: RemyNetwork,
     head: Head,
     link: Rng,
+    back: Rng,
     senders: [LossySender; 16],
     togglers: [Toggler; 16],
 ) -> Simulation
-    ensures { λ r. ⌜ r ≡ withHead (unqueued network link (partsOf senders togglers)) head ⌝ }
+    ensures { λ r. ⌜ r ≡ withHead (unqueued network link back (partsOf back senders togglers)) head ⌝ }
 {
-    let line = new_line(link);
+    let first = new_line(link);
+    let second = new_line(back);
     let waits = blank_waiting();
     let transit = blank_transit();
     let meter = AverageFlowMeter::new_disabled();
     let place = Queued {
         time: OptionTime::None,
     };
-    let waiting = [waits; 512];
-    let on_line = [transit; 512];
+    let lines = [first, second];
+    let waiting = [waits; 1024];
+    let on_line = [transit; 1024];
     let meters = [meter; 16];
-    let queue = [place; 33];
+    let queue = [place; 35];
     Simulation {
         network,
         head,
-        line,
+        lines,
         waiting,
         on_line,
         senders,
@@ -60,7 +65,8 @@ pub fn empty_simulation() -> Simulation
 {
     let network = empty_network();
     let link = empty_words();
-    let none = no_parts();
+    let back = blank_words();
+    let none = no_parts(back);
     let senders = none.senders;
     let togglers = none.togglers;
     let clock = Time::MAX;
@@ -68,5 +74,5 @@ pub fn empty_simulation() -> Simulation
         clock,
         next: Next::None,
     };
-    fresh(network, head, link, senders, togglers)
+    fresh(network, head, link, back, senders, togglers)
 }

@@ -3,8 +3,8 @@
 -- `fitness`), which the contract of `is_fit` cites; the contracts of its parts cite these.
 use Prim.Native.Nat.{ℕ, _+_, _*_, _≤_, _<_}
 use mathlib.Core.Path.{_≡_}
-use mathlib.Core.Bool.{Bool, true, not, _&&_, _||_, Bool·beq, cond}
-use mathlib.Core.List.{List, [], _∷_}
+use mathlib.Core.Bool.{Bool, true, not, _&&_, _||_, Bool·beq}
+use mathlib.Core.List.{List, map}
 use lib.Dec.{leb, ltb, eqb}
 use lib.ListN.{getD}
 use lib.Ieee.{le}
@@ -12,6 +12,7 @@ use Rattle.quantities.specs.declared.time.Time.{Time}
 use Rattle.quantities.specs.declared.time.OptionTime.{OptionTime}
 use Rattle.quantities.specs.declared.time.OptionTime.the-variants.{None, Some}
 use Rattle.quantities.specs.declared.information.Information.{Information}
+use Rattle.quantities.specs.Units.{spanOf, spanAfter}
 use Rattle.rand.specs.declared.generator.Rng.{Rng}
 use Rattle.rand.specs.Generator.{allZero}
 use Rattle.meters.specs.declared.meter.AverageFlowMeter.{AverageFlowMeter}
@@ -21,29 +22,27 @@ use Rattle.link.specs.declared.packet.Waiting.{Waiting}
 use Rattle.link.specs.declared.packet.Transit.{Transit}
 use Rattle.link.specs.declared.ring.Ring.{Ring}
 use Rattle.link.specs.declared.link.Line.{Line}
+use Rattle.link.specs.declared.link.LineValues.{LineValues}
 use Rattle.sender.specs.declared.lossy.Policy.{Policy}
 use Rattle.sender.specs.declared.lossy.SenderState.{SenderState}
 use Rattle.sender.specs.declared.lossy.Enabled.{Enabled}
 use Rattle.sender.specs.declared.lossy.LossySender.{LossySender}
 use Rattle.toggler.specs.declared.toggler.Toggler.{Toggler}
 use Rattle.toggler.specs.declared.tick_queue.Queued.{Queued}
-use Rattle.link.specs.Ring.{items}
+use Rattle.link.specs.Ring.{slotOf, items}
 use Rattle.link.specs.Link.{nextTick}
 use Rattle.sender.specs.Sender.{senderNext}
 use Rattle.toggler.specs.Queue.{queuePlaces, noQueued}
 use Rattle.sender.specs.declared.lossy.SenderState.the-variants as State
+use Rattle.remy.specs.declared.network.ReturnLine.{ReturnLine}
 use Rattle.remy.specs.declared.simulation.Next.{Next}
 use Rattle.remy.specs.Network.{upTo, between, windowFit}
-use Rattle.remy.specs.State.{Role, link, sender, toggler, nobody, roleOf, noSender, noToggler, noMeter, noWaiting, noTransit, totalBits}
-use Rattle.remy.specs.Fit.{every, held, isNext, isTimed, senderOn, sameTime, rising}
+use Rattle.remy.specs.State.{Role, link, bouncer, sender, toggler, nobody, roleOf, noLine, noSender, noToggler, noMeter, noWaiting, noTransit, totalBits}
+use Rattle.remy.specs.Fit.{every, held, countOf, sumTo, isNext, isTimed, senderOn, sameTime, rising}
 use Rattle.remy.specs.declared.simulation.Next.the-variants as Next
-use Rattle.ranges.specs.Frame.{pastTest}
+use Rattle.ranges.specs.Frame.{valuesAt, pastTest}
 
 -- ---- packets
-
--- no packet on the line is due later than a time
-unfoldable pub soonTest : Time → List Transit → Ring → Bool
-soonTest latest slots ring = every (λ x. le (x .due .0 .0) (latest .0 .0)) (items noTransit slots ring)
 
 -- a packet of a sender that sent so many
 unfoldable pub sentTest : ℕ → Time → Packet → Bool
@@ -53,7 +52,7 @@ sentTest sent clock p = between 1 sent (p .seq) && pastTest clock (p .«sent_tim
 unfoldable pub packetTest : List LossySender → ℕ → Time → Packet → Bool
 packetTest senders n clock p = ltb (p .sender) n && sentTest (getD senders (p .sender) noSender .«packets_sent») clock p
 
--- a packet on the line
+-- a packet on a line
 unfoldable pub transitTest : List LossySender → ℕ → Time → Transit → Bool
 transitTest senders n clock x = packetTest senders n clock (x .packet) && held (x .due)
 
@@ -61,46 +60,58 @@ transitTest senders n clock x = packetTest senders n clock (x .packet) && held (
 unfoldable pub waitsTest : List LossySender → List ℕ → ℕ → Time → Waiting → Bool
 waitsTest senders sizes n clock x = packetTest senders n clock (x .packet) && eqb (x .bits .0) (getD sizes (x .packet .sender) 0)
 
--- the packets that wait, with the waiting bits, and those on the line
-unfoldable pub waitingTest : List LossySender → List ℕ → ℕ → Time → List Waiting → Ring → Information → Bool
-waitingTest senders sizes n clock slots ring contains =
-    every (waitsTest senders sizes n clock) (items noWaiting slots ring) && eqb (contains .0) (totalBits (items noWaiting slots ring))
+-- the packets that wait for line l, with the waiting bits, and those on it
+unfoldable pub waitingTest : List LossySender → List ℕ → ℕ → Time → List Waiting → ℕ → Ring → Information → Bool
+waitingTest senders sizes n clock slots l ring contains =
+    every (waitsTest senders sizes n clock) (items noWaiting slots l ring) && eqb (contains .0) (totalBits (items noWaiting slots l ring))
 
-unfoldable pub onLineTest : List LossySender → ℕ → Time → List Transit → Ring → Bool
-onLineTest senders n clock slots ring = every (transitTest senders n clock) (items noTransit slots ring)
+unfoldable pub onLineTest : List LossySender → ℕ → Time → List Transit → ℕ → Ring → Bool
+onLineTest senders n clock slots l ring = every (transitTest senders n clock) (items noTransit slots l ring)
 
 -- due times do not fall
-unfoldable pub dueTest : List Transit → Ring → Bool
-dueTest slots ring = rising (items noTransit slots ring)
+unfoldable pub dueTest : List Transit → ℕ → Ring → Bool
+dueTest slots l ring = rising (items noTransit slots l ring)
 
-unfoldable pub packetsTest : List LossySender → List ℕ → ℕ → Time → List Waiting → Ring → Information → List Transit → Ring → Bool
-packetsTest senders sizes n clock waiting waits contains onLine moves =
-    waitingTest senders sizes n clock waiting waits contains && onLineTest senders n clock onLine moves && dueTest onLine moves
+unfoldable pub linePacketsTest : List LossySender → List ℕ → ℕ → Time → List Waiting → List Transit → ℕ → Line → Bool
+linePacketsTest senders sizes n clock waiting onLine l line =
+    waitingTest senders sizes n clock waiting l (line .waiting) (line .«buffer_contains»)
+    && onLineTest senders n clock onLine l (line .«on_line»)
+    && dueTest onLine l (line .«on_line»)
 
--- the first due time
-abbrev pub firstDue : List Transit → Ring → Time
-firstDue slots ring = getD slots (ring .start) noTransit .due
+-- the packets of the first so many lines
+unfoldable pub packetsTest : List LossySender → List ℕ → ℕ → Time → List Waiting → List Transit → List Line → ℕ → Bool
+packetsTest senders sizes n clock waiting onLine lines count =
+    upTo count (λ l. linePacketsTest senders sizes n clock waiting onLine l (getD lines l noLine))
 
--- how many members pass a test
-abbrev pub tally : {A : Type 0} → (A → Bool) → List A → ℕ
-tally f [] = 0
-tally f (x ∷ xs) = cond (f x) 1 0 + tally f xs
+-- no packet on line l is due later than a time
+unfoldable pub soonOnTest : Time → List Transit → ℕ → Ring → Bool
+soonOnTest latest slots l ring = every (λ x. le (x .due .0 .0) (latest .0 .0)) (items noTransit slots l ring)
 
--- a sender's packets that wait, and those on the line
-unfoldable pub waitingOf : ℕ → List Waiting → Ring → ℕ
-waitingOf i slots ring = tally (λ x. eqb (x .packet .sender) i) (items noWaiting slots ring)
+-- none on the first so many lines is due later than the clock and the line's delay
+unfoldable pub soonTest : LineValues → ReturnLine → Time → List Transit → List Line → ℕ → Bool
+soonTest first back clock onLine lines count =
+    upTo count (λ l. soonOnTest (spanAfter clock (spanOf (valuesAt first back l .delay))) onLine l (getD lines l noLine .«on_line»))
 
-unfoldable pub onLineOf : ℕ → List Transit → Ring → ℕ
-onLineOf i slots ring = tally (λ x. eqb (x .packet .sender) i) (items noTransit slots ring)
+-- a sender's packets that wait for line l or are on it, and those of the first so many lines
+unfoldable pub lineOf : List Waiting → List Transit → ℕ → Line → ℕ → ℕ
+lineOf waiting onLine l line i =
+    countOf i (map (λ x. x .packet) (items noWaiting waiting l (line .waiting))) + countOf i (map (λ x. x .packet) (items noTransit onLine l (line .«on_line»)))
+
+unfoldable pub linesOf : List Waiting → List Transit → List Line → ℕ → ℕ → ℕ
+linesOf waiting onLine lines count i = sumTo count (λ l. lineOf waiting onLine l (getD lines l noLine) i)
 
 -- the first n numbers are at most so much
 pub record AtMost (most n : ℕ) (numbers : List ℕ) : Type 0 where
   pub each : (i : ℕ) → i < n → getD numbers i 0 ≤ most
 
--- the counts of the 16 senders in a ring, at most its places: element i is sender i's; a packet of another sender is counted nowhere
-pub record Counts (of : ℕ → ℕ) (counts : List ℕ) : Type 0 where
+-- counts of the 16 senders: element i is sender i's; a packet of another sender is counted nowhere
+pub record Counts (bound : ℕ) (of : ℕ → ℕ) (counts : List ℕ) : Type 0 where
   pub each : (i : ℕ) → i < 16 → getD counts i 0 ≡ of i
-  pub most : AtMost 512 16 counts
+  pub most : AtMost bound 16 counts
+
+-- such counts, with so many more
+abbrev pub Added : ℕ → List ℕ → (ℕ → ℕ) → List ℕ → Type 0
+Added bound first more counts = Counts bound (λ i. getD first i 0 + more i) counts
 
 -- ---- a sender with its toggler and meter
 
@@ -130,39 +141,49 @@ meterTest bits clock m =
 unfoldable pub agreeTest : Bool → SenderState → OptionTime → Bool
 agreeTest enabled state start = Bool·beq enabled (senderOn state) && Bool·beq (senderOn state) (isOn start)
 
--- what was sent, with so many packets waiting and so many on the line
-unfoldable pub sentCountTest : ℕ → ℕ → ℕ → ℕ → Bool
-sentCountTest sent records waiting onLine = leb sent 16777216 && leb (records + waiting + onLine) sent
+-- what was sent, with so many packets under way
+unfoldable pub sentCountTest : ℕ → ℕ → ℕ → Bool
+sentCountTest sent records underWay = leb sent 16777216 && leb (records + underWay) sent
 
 -- the words of a sender's generator, and of its toggler's
 unfoldable pub wordsTest : Rng → Rng → Bool
 wordsTest own toggling = not (allZero own) && not (allZero toggling)
 
-unfoldable pub senderTest : Policy → ℕ → Time → LossySender → Toggler → AverageFlowMeter → ℕ → ℕ → Bool
-senderTest policy bits clock s t m waiting onLine =
+unfoldable pub senderTest : Policy → ℕ → Time → LossySender → Toggler → AverageFlowMeter → ℕ → Bool
+senderTest policy bits clock s t m underWay =
     stateTest policy clock (s .state)
     && held (t .«next_toggle»)
     && meterTest bits clock m
-    && sentCountTest (s .«packets_sent») (m .records) waiting onLine
+    && sentCountTest (s .«packets_sent») (m .records) underWay
     && agreeTest (t .enabled) (s .state) (m .«current_start»)
     && wordsTest (s .rng) (t .rng)
 
--- the first n senders, where sender i's packets have so many bits, so many of them wait and so many are on the line
-module _ (policy : Policy) (bits : ℕ → ℕ) (clock : Time) (waiting onLine : ℕ → ℕ) where
+-- the first n senders, where sender i's packets have so many bits and so many of them are under way
+module _ (policy : Policy) (bits : ℕ → ℕ) (clock : Time) (underWay : ℕ → ℕ) where
   unfoldable pub sendersTest : ℕ → List LossySender → List Toggler → List AverageFlowMeter → Bool
   sendersTest n senders togglers meters =
       upTo n
       (λ i.
-      senderTest policy (bits i) clock (getD senders i noSender) (getD togglers i noToggler) (getD meters i noMeter) (waiting i) (onLine i))
+      senderTest policy (bits i) clock (getD senders i noSender) (getD togglers i noToggler) (getD meters i noMeter) (underWay i))
 
 -- ---- the queue
 
+-- the own next time of the link of line l
+unfoldable pub linkTime : List Line → List Transit → Time → ℕ → OptionTime
+linkTime lines onLine clock l =
+    nextTick (getD lines l noLine) clock (getD onLine (slotOf l (getD lines l noLine .«on_line» .start)) noTransit .due)
+
+-- the times of the first so many links, as they are queued
+pub record LinkTimes (of : ℕ → OptionTime) (count : ℕ) (times : List Queued) : Type 0 where
+  pub each : (l : ℕ) → l < count → getD times l noQueued .time ≡ of l
+
 -- a part's own next time
-unfoldable pub roleTime : Line → Time → Time → List LossySender → List Toggler → Role → OptionTime
-roleTime line clock due senders togglers link = nextTick line clock due
-roleTime line clock due senders togglers (sender i) = senderNext (getD senders i noSender) clock
-roleTime line clock due senders togglers (toggler i) = Some (getD togglers i noToggler .«next_toggle»)
-roleTime line clock due senders togglers nobody = None
+unfoldable pub roleTime : List Queued → Time → List LossySender → List Toggler → Role → OptionTime
+roleTime links clock senders togglers (link l) = getD links l noQueued .time
+roleTime links clock senders togglers bouncer = None
+roleTime links clock senders togglers (sender i) = senderNext (getD senders i noSender) clock
+roleTime links clock senders togglers (toggler i) = Some (getD togglers i noToggler .«next_toggle»)
+roleTime links clock senders togglers nobody = None
 
 -- a queued time is held and not below the clock
 unfoldable pub queuedTest : Time → OptionTime → Bool
@@ -177,10 +198,10 @@ placeTest next clock k queued own = queuedTest clock queued && (isNext next k ||
 unfoldable pub emptyTest : ℕ → List Queued → Bool
 emptyTest n queue = upTo n (λ k. not (isOn (getD queue k noQueued .time)))
 
-module _ (count : ℕ) (line : Line) (clock due : Time) (senders : List LossySender) (togglers : List Toggler) where
+module _ (count : ℕ) (back : Bool) (links : List Queued) (clock : Time) (senders : List LossySender) (togglers : List Toggler) where
   -- the own next time of part k, among so many senders
   unfoldable pub partTime : ℕ → OptionTime
-  partTime k = roleTime line clock due senders togglers (roleOf count k)
+  partTime k = roleTime links clock senders togglers (roleOf count back k)
 
   -- the next part's own next time is the clock; nothing is queued where there is none
   unfoldable pub nextTest : List Queued → Next → Bool

@@ -1,14 +1,20 @@
 ghost use mathlib.Core.Path.{_≡_};
 ghost use Prim.Native.Nat.{_≤_, _<_};
-ghost use Rattle.clauses.specs.Tests.{AtMost, sentTest, waitingTest, onLineTest, dueTest, soonTest, packetsTest, waitingOf, onLineOf, Counts, firstDue};
+ghost use Rattle.ranges.specs.Frame.{InRings, AllInRings};
+ghost use Rattle.clauses.specs.Tests.{AtMost, sentTest, waitingTest, onLineTest, dueTest, linePacketsTest, packetsTest, soonTest, soonOnTest};
+use link::Line;
+use link::LineValues;
 use link::Packet;
 use link::Ring;
 use link::Transit;
 use link::Waiting;
 use quantities::Information;
 use quantities::Time;
+use quantities::TimeSpan;
 use ranges::frame::past_fit;
 use ranges::frame::time_held;
+use ranges::lines::values_of;
+use remy::ReturnLine;
 use sender::LossySender;
 
 // Whether a packet's sequence number is in 1..sent, where its sender sent so many, and it was sent in
@@ -26,8 +32,8 @@ fn sent_fit(sent: u32, clock: Time, packet: Packet) -> bool
     past_fit(clock, at)
 }
 
-// Whether each waiting packet is fit and carries its sender's bits, and the waiting bits are the sum of
-// what they carry. The sum cannot wrap: what is added is a sender's bits.
+// Whether each packet that waits for line l is fit and carries its sender's bits, and the waiting bits
+// are the sum of what they carry. The sum cannot wrap: what is added is a sender's bits.
 //
 // A helper, and no entry point, as are the others here with a `requires`: the caller shows that there
 // are at most 16 senders, that their packets have at most 2^24 bits, and that the rings' starts and
@@ -37,19 +43,21 @@ fn waiting_fit(
     sizes: [u64; 16],
     n: u32,
     clock: Time,
-    waiting: [Waiting; 512],
+    waiting: [Waiting; 1024],
+    l: usize,
     ring: Ring,
     contains: Information,
 ) -> bool
-    requires { ⌜ (n ≤ 16) × AtMost 16777216 n sizes × (ring .start < 512) × (ring .count ≤ 512) ⌝ }
-    ensures { λ r. ⌜ r ≡ waitingTest senders sizes n clock waiting ring contains ⌝ }
+    requires { ⌜ (n ≤ 16) × AtMost 16777216 n sizes × (l < 2) × (ring .start < 512) × (ring .count ≤ 512) ⌝ }
+    ensures { λ r. ⌜ r ≡ waitingTest senders sizes n clock waiting l ring contains ⌝ }
 {
+    let base = 512 * l;
     let start = ring.start;
     let count = ring.count;
     let mut sum: u64 = 0;
     let mut i = 0;
     while i < count {
-        let waits = waiting[(start + i) % 512];
+        let waits = waiting[base + (start + i) % 512];
         let packet = waits.packet;
         let k = packet.sender;
         if k >= n {
@@ -69,22 +77,24 @@ fn waiting_fit(
     contains.0 == sum
 }
 
-// Whether each packet on the line is fit.
+// Whether each packet on line l is fit.
 fn on_line_fit(
     senders: [LossySender; 16],
     n: u32,
     clock: Time,
-    on_line: [Transit; 512],
+    on_line: [Transit; 1024],
+    l: usize,
     ring: Ring,
 ) -> bool
-    requires { ⌜ (n ≤ 16) × (ring .start < 512) × (ring .count ≤ 512) ⌝ }
-    ensures { λ r. ⌜ r ≡ onLineTest senders n clock «on_line» ring ⌝ }
+    requires { ⌜ (n ≤ 16) × (l < 2) × (ring .start < 512) × (ring .count ≤ 512) ⌝ }
+    ensures { λ r. ⌜ r ≡ onLineTest senders n clock «on_line» l ring ⌝ }
 {
+    let base = 512 * l;
     let start = ring.start;
     let count = ring.count;
     let mut i = 0;
     while i < count {
-        let transit = on_line[(start + i) % 512];
+        let transit = on_line[base + (start + i) % 512];
         let packet = transit.packet;
         let k = packet.sender;
         if k >= n {
@@ -103,17 +113,18 @@ fn on_line_fit(
     true
 }
 
-// Whether no due time on the line is below the one before it.
-fn due_fit(on_line: [Transit; 512], ring: Ring) -> bool
-    requires { ⌜ (ring .start < 512) × (ring .count ≤ 512) ⌝ }
-    ensures { λ r. ⌜ r ≡ dueTest «on_line» ring ⌝ }
+// Whether no due time on line l is below the one before it.
+fn due_fit(on_line: [Transit; 1024], l: usize, ring: Ring) -> bool
+    requires { ⌜ (l < 2) × (ring .start < 512) × (ring .count ≤ 512) ⌝ }
+    ensures { λ r. ⌜ r ≡ dueTest «on_line» l ring ⌝ }
 {
+    let base = 512 * l;
     let start = ring.start;
     let count = ring.count;
     let mut i = 0;
     while i + 1 < count {
-        let first = on_line[(start + i) % 512];
-        let second = on_line[(start + i + 1) % 512];
+        let first = on_line[base + (start + i) % 512];
+        let second = on_line[base + (start + i + 1) % 512];
         let a = first.due;
         let b = second.due;
         if a.0.0 <= b.0.0 {
@@ -125,18 +136,71 @@ fn due_fit(on_line: [Transit; 512], ring: Ring) -> bool
     true
 }
 
-// Whether no packet on the line is due later than a time.
-//
-// A helper for `fitness`, and no entry point: `is_fit` has tested the rings.
-pub fn due_soon(on_line: [Transit; 512], ring: Ring, latest: Time) -> bool
-    requires { ⌜ (ring .start < 512) × (ring .count ≤ 512) ⌝ }
-    ensures { λ r. ⌜ r ≡ soonTest latest «on_line» ring ⌝ }
+// Whether the packets that wait for line l and those on it are fit, with the waiting bits, and no due
+// time falls.
+fn line_packets_fit(
+    senders: [LossySender; 16],
+    sizes: [u64; 16],
+    n: u32,
+    clock: Time,
+    waiting: [Waiting; 1024],
+    on_line: [Transit; 1024],
+    l: usize,
+    line: Line,
+) -> bool
+    requires { ⌜ (n ≤ 16) × AtMost 16777216 n sizes × (l < 2) × InRings line ⌝ }
+    ensures { λ r. ⌜ r ≡ linePacketsTest senders sizes n clock waiting «on_line» l line ⌝ }
 {
+    let waits = line.waiting;
+    let moves = line.on_line;
+    let contains = line.buffer_contains;
+    if !waiting_fit(senders, sizes, n, clock, waiting, l, waits, contains) {
+        return false;
+    }
+    if !on_line_fit(senders, n, clock, on_line, l, moves) {
+        return false;
+    }
+    due_fit(on_line, l, moves)
+}
+
+// Whether the packets of the first so many lines are fit.
+//
+// A helper for `fitness`, and no entry point: `is_fit` has tested the network and the rings.
+pub fn packets_fit(
+    senders: [LossySender; 16],
+    sizes: [u64; 16],
+    n: u32,
+    clock: Time,
+    waiting: [Waiting; 1024],
+    on_line: [Transit; 1024],
+    lines: [Line; 2],
+    count: usize,
+) -> bool
+    requires { ⌜ (n ≤ 16) × AtMost 16777216 n sizes × (count ≤ 2) × AllInRings lines count ⌝ }
+    ensures { λ r. ⌜ r ≡ packetsTest senders sizes n clock waiting «on_line» lines count ⌝ }
+{
+    let mut l = 0;
+    while l < count {
+        let line = lines[l];
+        if !line_packets_fit(senders, sizes, n, clock, waiting, on_line, l, line) {
+            return false;
+        }
+        l += 1;
+    }
+    true
+}
+
+// Whether no packet on line l is due later than a time.
+fn due_soon(on_line: [Transit; 1024], l: usize, ring: Ring, latest: Time) -> bool
+    requires { ⌜ (l < 2) × (ring .start < 512) × (ring .count ≤ 512) ⌝ }
+    ensures { λ r. ⌜ r ≡ soonOnTest latest «on_line» l ring ⌝ }
+{
+    let base = 512 * l;
     let start = ring.start;
     let count = ring.count;
     let mut i = 0;
     while i < count {
-        let transit = on_line[(start + i) % 512];
+        let transit = on_line[base + (start + i) % 512];
         let due = transit.due;
         if due.0.0 <= latest.0.0 {
             i += 1;
@@ -147,93 +211,31 @@ pub fn due_soon(on_line: [Transit; 512], ring: Ring, latest: Time) -> bool
     true
 }
 
-// Whether the packets that wait and those on the line are fit, with the waiting bits, and no due time
-// falls.
+// Whether no packet on a line is due later than the clock and that line's delay, for each of the first
+// so many lines.
 //
-// A helper for `fitness`, and no entry point: `is_fit` has tested the network and the rings.
-pub fn packets_fit(
-    senders: [LossySender; 16],
-    sizes: [u64; 16],
-    n: u32,
+// A helper for `fitness`, and no entry point: `is_fit` has tested the rings.
+pub fn all_due_soon(
+    first: LineValues,
+    back: ReturnLine,
     clock: Time,
-    waiting: [Waiting; 512],
-    waits: Ring,
-    contains: Information,
-    on_line: [Transit; 512],
-    moves: Ring,
+    on_line: [Transit; 1024],
+    lines: [Line; 2],
+    count: usize,
 ) -> bool
-    requires { ⌜ (n ≤ 16) × AtMost 16777216 n sizes × (waits .start < 512) × (waits .count ≤ 512) × (moves .start < 512) × (moves .count ≤ 512) ⌝ }
-    ensures { λ r. ⌜ r ≡ packetsTest senders sizes n clock waiting waits contains «on_line» moves ⌝ }
+    requires { ⌜ (count ≤ 2) × AllInRings lines count ⌝ }
+    ensures { λ r. ⌜ r ≡ soonTest first back clock «on_line» lines count ⌝ }
 {
-    if !waiting_fit(senders, sizes, n, clock, waiting, waits, contains) {
-        return false;
-    }
-    if !on_line_fit(senders, n, clock, on_line, moves) {
-        return false;
-    }
-    due_fit(on_line, moves)
-}
-
-// The due time of the first packet on the line; it is read only where there is one.
-//
-// A helper for `fitness`, and no entry point: `is_fit` has tested the rings.
-pub fn first_due(on_line: [Transit; 512], ring: Ring) -> Time
-    requires { ⌜ ring .start < 512 ⌝ }
-    ensures { λ r. ⌜ r ≡ firstDue «on_line» ring ⌝ }
-{
-    let at = ring.start;
-    let first = on_line[at];
-    first.due
-}
-
-// How many packets of each sender wait; those of a sender from 16 on are counted nowhere.
-//
-// A helper for `fitness`, and no entry point: `is_fit` has tested the rings.
-pub fn waiting_counts(waiting: [Waiting; 512], ring: Ring) -> [usize; 16]
-    requires { ⌜ (ring .start < 512) × (ring .count ≤ 512) ⌝ }
-    ensures { λ r. ⌜ Counts (λ k. waitingOf k waiting ring) r ⌝ }
-{
-    let start = ring.start;
-    let count = ring.count;
-    let mut counts: [usize; 16] = [0; 16];
-    let mut i = 0;
-    while i < count {
-        let waits = waiting[(start + i) % 512];
-        let packet = waits.packet;
-        let k = packet.sender as usize;
-        if k < 16 {
-            let c = counts[k];
-            counts[k] = c + 1;
-            i += 1;
-        } else {
-            i += 1;
+    let mut l = 0;
+    while l < count {
+        let line = lines[l];
+        let ring = line.on_line;
+        let values = values_of(first, back, l);
+        let latest = clock.add(TimeSpan(values.delay));
+        if !due_soon(on_line, l, ring, latest) {
+            return false;
         }
+        l += 1;
     }
-    counts
-}
-
-// How many packets of each sender are on the line; those of a sender from 16 on are counted nowhere.
-//
-// A helper for `fitness`, and no entry point: `is_fit` has tested the rings.
-pub fn on_line_counts(on_line: [Transit; 512], ring: Ring) -> [usize; 16]
-    requires { ⌜ (ring .start < 512) × (ring .count ≤ 512) ⌝ }
-    ensures { λ r. ⌜ Counts (λ k. onLineOf k «on_line» ring) r ⌝ }
-{
-    let start = ring.start;
-    let count = ring.count;
-    let mut counts: [usize; 16] = [0; 16];
-    let mut i = 0;
-    while i < count {
-        let transit = on_line[(start + i) % 512];
-        let packet = transit.packet;
-        let k = packet.sender as usize;
-        if k < 16 {
-            let c = counts[k];
-            counts[k] = c + 1;
-            i += 1;
-        } else {
-            i += 1;
-        }
-    }
-    counts
+    true
 }

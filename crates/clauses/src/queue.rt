@@ -1,9 +1,11 @@
 ghost use mathlib.Core.Path.{_≡_};
 ghost use Prim.Native.Nat.{_≤_};
 ghost use Rattle.remy.specs.Fit.{isNext, sameTime};
-ghost use Rattle.clauses.specs.Tests.{queuedTest, placeTest, emptyTest, partTime, nextTest, placesTest, queueTest};
+ghost use Rattle.ranges.specs.Frame.{AllInRings};
+ghost use Rattle.clauses.specs.Tests.{linkTime, LinkTimes, queuedTest, placeTest, emptyTest, partTime, nextTest, placesTest, queueTest};
 use crate::senders::is_on;
 use link::Line;
+use link::Transit;
 use link::next_tick;
 use quantities::OptionTime;
 use quantities::Time;
@@ -13,36 +15,78 @@ use sender::LossySender;
 use toggler::Queued;
 use toggler::Toggler;
 
-// The own next time of part k, among n senders. `due` is the first due time on the line.
+// The own next times of the links of the first so many lines, as they are queued.
+//
+// A helper for `fitness`, and no entry point: `is_fit` has tested the rings.
+pub fn link_times(
+    lines: [Line; 2],
+    on_line: [Transit; 1024],
+    clock: Time,
+    count: usize,
+) -> [Queued; 2]
+    requires { ⌜ (count ≤ 2) × AllInRings lines count ⌝ }
+    ensures { λ r. ⌜ LinkTimes (linkTime lines «on_line» clock) count r ⌝ }
+{
+    let empty = Queued {
+        time: OptionTime::None,
+    };
+    let mut times = [empty; 2];
+    let mut l = 0;
+    while l < count {
+        let line = lines[l];
+        let ring = line.on_line;
+        let front = on_line[512 * l + ring.start];
+        let due = front.due;
+        let time = next_tick(line, clock, due);
+        let own = Queued { time };
+        times[l] = own;
+        l += 1;
+    }
+    times
+}
+
+// The own next time of part k, among n senders and with a return line or without; `links` has those of
+// the links.
 //
 // A helper, and no entry point, as are the others here with a `requires`: the caller shows that there
 // are at most 16 senders.
 fn part_time(
     n: u32,
-    line: Line,
+    back: bool,
+    links: [Queued; 2],
     clock: Time,
-    due: Time,
     senders: [LossySender; 16],
     togglers: [Toggler; 16],
     k: usize,
 ) -> OptionTime
     requires { ⌜ n ≤ 16 ⌝ }
-    ensures { λ r. ⌜ r ≡ partTime n line clock due senders togglers k ⌝ }
+    ensures { λ r. ⌜ r ≡ partTime n back links clock senders togglers k ⌝ }
 {
     if k == 0 {
-        return next_tick(line, clock, due);
+        let link = links[0];
+        return link.time;
     }
     let i = (k - 1) / 2;
-    if i >= n as usize {
+    if i < n as usize {
+        if k % 2 == 1 {
+            let sender = senders[i];
+            return sender.next_tick(clock);
+        }
+        let toggler = togglers[i];
+        let next = toggler.next_toggle;
+        return OptionTime::Some(next);
+    }
+    if !back {
+        return OptionTime::None;
+    }
+    if i != n as usize {
         return OptionTime::None;
     }
     if k % 2 == 1 {
-        let sender = senders[i];
-        return sender.next_tick(clock);
+        return OptionTime::None;
     }
-    let toggler = togglers[i];
-    let next = toggler.next_toggle;
-    OptionTime::Some(next)
+    let link = links[1];
+    link.time
 }
 
 // Whether two times are equal, or both are absent.
@@ -100,11 +144,11 @@ fn place_fit(next: Next, clock: Time, k: usize, queued: OptionTime, own: OptionT
 }
 
 // Whether nothing is queued.
-fn is_empty(queue: [Queued; 33]) -> bool
-    ensures { λ r. ⌜ r ≡ emptyTest 33 queue ⌝ }
+fn is_empty(queue: [Queued; 35]) -> bool
+    ensures { λ r. ⌜ r ≡ emptyTest 35 queue ⌝ }
 {
     let mut k = 0;
-    while k < 33 {
+    while k < 35 {
         let queued = queue[k];
         let time = queued.time;
         if is_on(time) {
@@ -118,21 +162,21 @@ fn is_empty(queue: [Queued; 33]) -> bool
 // Whether the next part's own next time is the clock, or nothing is queued where no part is next.
 fn next_fit(
     n: u32,
-    line: Line,
+    back: bool,
+    links: [Queued; 2],
     clock: Time,
-    due: Time,
     senders: [LossySender; 16],
     togglers: [Toggler; 16],
-    queue: [Queued; 33],
+    queue: [Queued; 35],
     next: Next,
 ) -> bool
     requires { ⌜ n ≤ 16 ⌝ }
-    ensures { λ r. ⌜ r ≡ nextTest n line clock due senders togglers queue next ⌝ }
+    ensures { λ r. ⌜ r ≡ nextTest n back links clock senders togglers queue next ⌝ }
 {
     match next {
         Next::None => is_empty(queue),
         Next::Part(j) => {
-            let own = part_time(n, line, clock, due, senders, togglers, j);
+            let own = part_time(n, back, links, clock, senders, togglers, j);
             same_time(OptionTime::Some(clock), own)
         }
     }
@@ -141,22 +185,22 @@ fn next_fit(
 // Whether each place of the queue is fit.
 fn places_fit(
     n: u32,
-    line: Line,
+    back: bool,
+    links: [Queued; 2],
     clock: Time,
-    due: Time,
     senders: [LossySender; 16],
     togglers: [Toggler; 16],
-    queue: [Queued; 33],
+    queue: [Queued; 35],
     next: Next,
 ) -> bool
     requires { ⌜ n ≤ 16 ⌝ }
-    ensures { λ r. ⌜ r ≡ placesTest n line clock due senders togglers 33 queue next ⌝ }
+    ensures { λ r. ⌜ r ≡ placesTest n back links clock senders togglers 35 queue next ⌝ }
 {
     let mut k = 0;
-    while k < 33 {
+    while k < 35 {
         let queued = queue[k];
         let time = queued.time;
-        let own = part_time(n, line, clock, due, senders, togglers, k);
+        let own = part_time(n, back, links, clock, senders, togglers, k);
         if !place_fit(next, clock, k, time, own) {
             return false;
         }
@@ -170,19 +214,19 @@ fn places_fit(
 // A helper for `fitness`, and no entry point: `is_fit` has tested the senders' number.
 pub fn queue_fit(
     n: u32,
-    line: Line,
+    back: bool,
+    links: [Queued; 2],
     clock: Time,
-    due: Time,
     senders: [LossySender; 16],
     togglers: [Toggler; 16],
-    queue: [Queued; 33],
+    queue: [Queued; 35],
     next: Next,
 ) -> bool
     requires { ⌜ n ≤ 16 ⌝ }
-    ensures { λ r. ⌜ r ≡ queueTest n line clock due senders togglers queue next ⌝ }
+    ensures { λ r. ⌜ r ≡ queueTest n back links clock senders togglers queue next ⌝ }
 {
-    if !next_fit(n, line, clock, due, senders, togglers, queue, next) {
+    if !next_fit(n, back, links, clock, senders, togglers, queue, next) {
         return false;
     }
-    places_fit(n, line, clock, due, senders, togglers, queue, next)
+    places_fit(n, back, links, clock, senders, togglers, queue, next)
 }

@@ -147,15 +147,15 @@ fn agree(enabled: bool, state: SenderState, start: OptionTime) -> bool
     same(on, is_on(start))
 }
 
-// Whether at most 2^24 packets were sent, and at least those counted, waiting and on the line.
-fn sent_count_fit(sent: u32, records: u32, waiting: usize, on_line: usize) -> bool
-    requires { ⌜ (waiting ≤ 512) × («on_line» ≤ 512) ⌝ }
-    ensures { λ r. ⌜ r ≡ sentCountTest sent records waiting «on_line» ⌝ }
+// Whether at most 2^24 packets were sent, and at least those counted and those under way.
+fn sent_count_fit(sent: u32, records: u32, under_way: usize) -> bool
+    requires { ⌜ «under_way» ≤ 2048 ⌝ }
+    ensures { λ r. ⌜ r ≡ sentCountTest sent records «under_way» ⌝ }
 {
     if sent > 16777216 {
         return false;
     }
-    records as usize + waiting + on_line <= sent as usize
+    records as usize + under_way <= sent as usize
 }
 
 // Whether neither a sender's generator nor its toggler's has four zero words.
@@ -168,8 +168,8 @@ fn words_fit(own: Rng, toggling: Rng) -> bool
     !toggling.all_zero()
 }
 
-// Whether a sender with its toggler and meter is fit, where so many of its packets wait and so many
-// are on the line.
+// Whether a sender with its toggler and meter is fit, where so many of its packets wait or are on a
+// line.
 fn sender_fit(
     policy: Policy,
     bits: u64,
@@ -177,11 +177,10 @@ fn sender_fit(
     sender: LossySender,
     toggler: Toggler,
     meter: AverageFlowMeter,
-    waiting: usize,
-    on_line: usize,
+    under_way: usize,
 ) -> bool
-    requires { ⌜ (bits ≤ 16777216) × (waiting ≤ 512) × («on_line» ≤ 512) ⌝ }
-    ensures { λ r. ⌜ r ≡ senderTest policy bits clock sender toggler meter waiting «on_line» ⌝ }
+    requires { ⌜ (bits ≤ 16777216) × («under_way» ≤ 2048) ⌝ }
+    ensures { λ r. ⌜ r ≡ senderTest policy bits clock sender toggler meter «under_way» ⌝ }
 {
     let state = sender.state;
     if !state_fit(policy, clock, state) {
@@ -194,7 +193,7 @@ fn sender_fit(
     if !meter_fit(bits, clock, meter) {
         return false;
     }
-    if !sent_count_fit(sender.packets_sent, meter.records, waiting, on_line) {
+    if !sent_count_fit(sender.packets_sent, meter.records, under_way) {
         return false;
     }
     let start = meter.current_start;
@@ -207,22 +206,21 @@ fn sender_fit(
 }
 
 // Whether the first n senders, with their togglers and meters, are fit, where element i of the sizes is
-// the bits of sender i's packets, and of the counts how many of them wait and how many are on the line.
+// the bits of sender i's packets, and of the counts how many of them wait or are on a line.
 //
 // A helper for `fitness`, and no entry point: `is_fit` has tested the network and counted over rings of 512 places.
 pub fn senders_fit(
     policy: Policy,
     sizes: [u64; 16],
     clock: Time,
-    waiting: [usize; 16],
-    on_line: [usize; 16],
+    counts: [usize; 16],
     n: u32,
     senders: [LossySender; 16],
     togglers: [Toggler; 16],
     meters: [AverageFlowMeter; 16],
 ) -> bool
-    requires { ⌜ (n ≤ 16) × AtMost 16777216 n sizes × AtMost 512 16 waiting × AtMost 512 16 «on_line» ⌝ }
-    ensures { λ r. ⌜ r ≡ sendersTest policy (λ i. getD sizes i 0) clock (λ i. getD waiting i 0) (λ i. getD «on_line» i 0) n senders togglers meters ⌝ }
+    requires { ⌜ (n ≤ 16) × AtMost 16777216 n sizes × AtMost 2048 16 counts ⌝ }
+    ensures { λ r. ⌜ r ≡ sendersTest policy (λ i. getD sizes i 0) clock (λ i. getD counts i 0) n senders togglers meters ⌝ }
 {
     let mut i: u32 = 0;
     while i < n {
@@ -230,10 +228,9 @@ pub fn senders_fit(
         let sender = senders[k];
         let toggler = togglers[k];
         let meter = meters[k];
-        let a = waiting[k];
-        let b = on_line[k];
+        let count = counts[k];
         let bits = sizes[k];
-        if !sender_fit(policy, bits, clock, sender, toggler, meter, a, b) {
+        if !sender_fit(policy, bits, clock, sender, toggler, meter, count) {
             return false;
         }
         i += 1;

@@ -7,11 +7,13 @@ ghost use Rattle.remy.specs.Run.{runOf};
 ghost use Rattle.reading.specs.Flow.{toldFlow, flowOf};
 use flows::Rtt;
 use link::Limit;
+use link::LineValues;
 use meters::FlowRead;
 use quantities::float::to_bits;
 use rand::ContinuousDistribution;
 use reading::SenderFlow;
 use remy::RemyNetwork;
+use remy::ReturnLine;
 use sender::Policy;
 
 fn main() {
@@ -24,12 +26,16 @@ fn main() {
 // A line of 8 bit/s with a delay of 1 s, where 8 bits may wait; one sender with packets of 8 bits,
 // off for 1 s, then on for 100 s, that may have 3 packets under way.
 fn network() -> RemyNetwork {
-    let bits = [8; 16];
-    RemyNetwork {
+    let line = LineValues {
         delay: 1.0,
         rate: 8.0,
         loss: 0.0,
         limit: Limit::Bits(8),
+    };
+    let bits = [8; 16];
+    RemyNetwork {
+        line,
+        back: ReturnLine::None,
         bits,
         senders: 1,
         on: ContinuousDistribution::Always(100.0),

@@ -11,17 +11,19 @@ use Rattle.quantities.specs.declared.time.OptionTime.the-variants.{None, Some}
 use Rattle.rand.specs.Generator.{allZero}
 use Rattle.meters.specs.Meter.{isOn, totalFit, sumFit}
 use Rattle.link.specs.declared.packet.Packet.{Packet}
+use Rattle.toggler.specs.declared.tick_queue.Queued.{Queued}
 use Rattle.sender.specs.declared.lossy.Policy.{Policy}
 use Rattle.sender.specs.declared.lossy.SenderState.{SenderState}
 use Rattle.sender.specs.declared.lossy.SenderState.the-variants as State
 use Rattle.remy.specs.declared.simulation.Simulation.{Simulation}
 use Rattle.remy.specs.Network.{upTo, between, windowFit}
-use Rattle.remy.specs.State.{Role, link, sender, toggler, nobody, senderAt, togglerAt, meterAt, frontOf, senderBits}
-use Rattle.remy.specs.Queue.{ownTime}
-use Rattle.remy.specs.Fit.{every, packetFit, held, heldIfAny, heldSender, heldQueued, sinceStart, startedFit, meterStartFit, countOf, ackFit, heldWindowFit, isTimed, timerFit, senderOn}
-use Rattle.remy.proofs.Facts.{both-l, both-r, both-i}
+use Rattle.remy.specs.State.{hasBack, lineCount, senderAt, togglerAt, meterAt, senderBits}
+use Rattle.remy.specs.Queue.{ownTime, nextTimeOf}
+use Rattle.remy.specs.Fit.{every, packetFit, held, heldIfAny, heldSender, heldQueued, sinceStart, startedFit, meterStartFit, ackFit, heldWindowFit, isTimed, timerFit, senderOn}
+use Rattle.remy.proofs.Facts.{both-l, both-r, both-i, first-there, second-there}
+use Rattle.remy.proofs.Roles.{role-elim}
 use Rattle.ranges.specs.Frame.{pastTest}
-use Rattle.clauses.specs.Tests.{sentTest, packetTest, tally, timerTest, enabledTest, stateTest, startTest, meterTest, agreeTest, sentCountTest, wordsTest, senderTest, roleTime, queuedTest}
+use Rattle.clauses.specs.Tests.{sentTest, packetTest, timerTest, enabledTest, stateTest, startTest, meterTest, agreeTest, sentCountTest, wordsTest, senderTest, linkTime, LinkTimes, roleTime, partTime, queuedTest}
 
 -- ---- conjunctions
 
@@ -64,12 +66,6 @@ every-map f g (x ∷ xs) = ap (λ (t : Bool). f (g x) && t) (every-map f g xs)
 pub upTo-i : (n : ℕ) (f : ℕ → Bool) → ((i : ℕ) → i < n → f i ≡ true) → upTo n f ≡ true
 upTo-i zero f all = refl
 upTo-i (suc n) f all = both-i (upTo n f) (f n) (upTo-i n f (λ i h. all i (omega arith))) (all n (omega arith))
-
--- ---- counts
-
-pub count-map : {A : Type 0} (packet : A → Packet) (i : ℕ) (xs : List A) → countOf i (map packet xs) ≡ tally (λ x. eqb (packet x .sender) i) xs
-count-map packet i [] = refl
-count-map packet i (x ∷ xs) = rw (count-map packet i xs)
 
 -- ---- a packet
 
@@ -149,7 +145,7 @@ module _ (s : Simulation) where
 
 -- ---- the i-th sender, with its toggler and meter
 
-pub record SenderClauses (s : Simulation) (i w o : ℕ) : Type 0 where
+pub record SenderClauses (s : Simulation) (i u : ℕ) : Type 0 where
   pub state : StateClauses s (s .network .policy) (senderAt s i .state)
   pub toggle : held (togglerAt s i .«next_toggle») ≡ true
   pub meter-held : heldIfAny (meterAt s i .«current_start») ≡ true
@@ -158,15 +154,15 @@ pub record SenderClauses (s : Simulation) (i w o : ℕ) : Type 0 where
   pub sum : sumFit (meterAt s i .records) (meterAt s i .«rtt_sum») ≡ true
   pub bits : eqb (meterAt s i .total .0) (meterAt s i .records * senderBits (s .network) i .0) ≡ true
   pub few : leb (senderAt s i .«packets_sent») 16777216 ≡ true
-  pub records : leb (meterAt s i .records + w + o) (senderAt s i .«packets_sent») ≡ true
+  pub records : leb (meterAt s i .records + u) (senderAt s i .«packets_sent») ≡ true
   pub toggler-on : Bool·beq (togglerAt s i .enabled) (senderOn (senderAt s i .state)) ≡ true
   pub meter-on : Bool·beq (senderOn (senderAt s i .state)) (isOn (meterAt s i .«current_start»)) ≡ true
   pub words : not (allZero (senderAt s i .rng)) ≡ true
   pub toggler-words : not (allZero (togglerAt s i .rng)) ≡ true
 
-module _ (s : Simulation) (i w o : ℕ) where
-  pub sender-clauses : senderTest (s .network .policy) (senderBits (s .network) i .0) (s .head .clock) (senderAt s i) (togglerAt s i) (meterAt s i) w o ≡ true
-      → SenderClauses s i w o
+module _ (s : Simulation) (i u : ℕ) where
+  pub sender-clauses : senderTest (s .network .policy) (senderBits (s .network) i .0) (s .head .clock) (senderAt s i) (togglerAt s i) (meterAt s i) u ≡ true
+      → SenderClauses s i u
   unfolding senderTest meterTest sentCountTest agreeTest wordsTest
   sender-clauses e =
       let x = senderAt s i in
@@ -176,7 +172,7 @@ module _ (s : Simulation) (i w o : ℕ) where
       let A = stateTest (s .network .policy) clock (x .state) in
       let B = held (t .«next_toggle») in
       let C = meterTest (senderBits (s .network) i .0) clock m in
-      let D = sentCountTest (x .«packets_sent») (m .records) w o in
+      let D = sentCountTest (x .«packets_sent») (m .records) u in
       let E = agreeTest (t .enabled) (x .state) (m .«current_start») in
       let g = and-2 (A && B && C && D && E) (wordsTest (x .rng) (t .rng)) e in
       let a = and-5 A B C D E (g .0) in
@@ -185,7 +181,7 @@ module _ (s : Simulation) (i w o : ℕ) where
       and-4 (startTest clock (m .«current_start»)) (totalFit (m .«total_time»)) (sumFit (m .records) (m .«rtt_sum»))
       (eqb (m .total .0) (m .records * senderBits (s .network) i .0)) (a .2) in
       let c = start-clauses s (m .«current_start») (b .0) in
-      let d = and-2 (leb (x .«packets_sent») 16777216) (leb (m .records + w + o) (x .«packets_sent»)) (a .3) in
+      let d = and-2 (leb (x .«packets_sent») 16777216) (leb (m .records + u) (x .«packets_sent»)) (a .3) in
       let f = and-2 (Bool·beq (t .enabled) (senderOn (x .state))) (Bool·beq (senderOn (x .state)) (isOn (m .«current_start»))) (a .4) in
       record {
         state = state-clauses s (s .network .policy) (x .state) (a .0);
@@ -203,8 +199,8 @@ module _ (s : Simulation) (i w o : ℕ) where
         toggler-words = k .1;
       }
 
-  pub clauses-sender : SenderClauses s i w o
-      → senderTest (s .network .policy) (senderBits (s .network) i .0) (s .head .clock) (senderAt s i) (togglerAt s i) (meterAt s i) w o ≡ true
+  pub clauses-sender : SenderClauses s i u
+      → senderTest (s .network .policy) (senderBits (s .network) i .0) (s .head .clock) (senderAt s i) (togglerAt s i) (meterAt s i) u ≡ true
   unfolding senderTest meterTest sentCountTest agreeTest wordsTest
   clauses-sender c =
       rw (
@@ -225,12 +221,14 @@ module _ (s : Simulation) (i w o : ℕ) where
 -- ---- the queue
 
 module _ (s : Simulation) where
-  pub own-same : (r : Role) → roleTime (s .line) (s .head .clock) (frontOf s .due) (s .senders) (s .togglers) r ≡ ownTime s r
-  unfolding roleTime ownTime
-  own-same link = refl
-  own-same (sender i) = refl
-  own-same (toggler i) = refl
-  own-same nobody = refl
+  -- the own next time of part k, through the times of the links that there are
+  pub part-same : (links : List Queued) → LinkTimes (linkTime (s .lines) (s .«on_line») (s .head .clock)) (lineCount (s .network)) links → (k : ℕ)
+      → partTime (s .network .senders) (hasBack (s .network .back)) links (s .head .clock) (s .senders) (s .togglers) k ≡ nextTimeOf s k
+  unfolding partTime roleTime linkTime ownTime
+  part-same links t k =
+      role-elim (λ role. roleTime links (s .head .clock) (s .senders) (s .togglers) role ≡ ownTime s role) (s .network .senders) (hasBack (s .network .back)) k
+      (t .each 0 (first-there (hasBack (s .network .back)))) (λ i h. refl) (λ i h. refl) (λ b. refl)
+      (λ b. t .each 1 (second-there (hasBack (s .network .back)) b)) refl
 
   pub queued-same : (q : OptionTime) → queuedTest (s .head .clock) q ≡ heldQueued s q
   unfolding queuedTest

@@ -1,6 +1,6 @@
 -- The groups of tests together are `fit`; and what each result of a group says of it. Assumes nothing.
-use Prim.Native.Nat.{ℕ, _+_, _≤_, _<_}
-use mathlib.Core.Path.{_≡_, refl, sym, ap, ap₂, _∙_}
+use Prim.Native.Nat.{ℕ, _≤_, _<_}
+use mathlib.Core.Path.{_≡_, refl, sym, ap, ap₂, subst, _∙_}
 use mathlib.Core.Bool.{Bool, true, false, not, _&&_, _||_}
 use mathlib.Core.List.{List, map}
 use native.Mathlib.Omega.{arith}
@@ -14,78 +14,102 @@ use Rattle.rand.specs.Generator.{allZero}
 use Rattle.link.specs.declared.packet.Packet.{Packet}
 use Rattle.link.specs.declared.packet.Waiting.{Waiting}
 use Rattle.link.specs.declared.packet.Transit.{Transit}
+use Rattle.toggler.specs.declared.tick_queue.Queued.{Queued}
 use Rattle.toggler.specs.Queue.{queuePlaces}
 use Rattle.remy.specs.declared.simulation.Next.{Next}
 use Rattle.remy.specs.declared.simulation.Simulation.{Simulation}
 use Rattle.remy.specs.Network.{upTo, networkStop}
-use Rattle.remy.specs.State.{roleOf, senderAt, togglerAt, meterAt, queuedAt, waitingItems, waitingPackets, onLineItems, onLinePackets, senderBits, totalBits}
+use Rattle.remy.specs.State.{hasBack, lineCount, lineAt, senderAt, togglerAt, meterAt, queuedAt, waitingItems, waitingPackets, onLineItems, onLinePackets, senderBits, totalBits}
 use Rattle.remy.specs.Queue.{nextTimeOf}
-use Rattle.remy.specs.Fit.{every, networkFit, ringsFit, packetFit, packetsFit, bitsFit, clockFit, held, heldIfAny, heldSender, heldQueued, isNext, heldTimesFit, sinceStart, startedFit, meterStartFit, pastFit, totalsFit, sumsFit, countOf, recordsFit, rising, dueFit, ackFit, countsFit, windowsFit, timersFit, togglersAgree, metersAgree, meterBitsFit, sameTime, nextFit, queueFit, carries, carriedFit, fit}
+use Rattle.remy.specs.Fit.{every, eachLine, networkFit, ringsFit, packetFit, packetsFit, bitsFit, clockFit, held, heldIfAny, heldSender, heldQueued, isNext, heldTimesFit, sinceStart, startedFit, meterStartFit, pastFit, totalsFit, sumsFit, recordsFit, rising, dueFit, ackFit, countsFit, windowsFit, timersFit, togglersAgree, metersAgree, meterBitsFit, sameTime, nextFit, queueFit, carries, carriedFit, fit}
 use Rattle.remy.proofs.Facts.{FitState, fit-state, FitWords, words-apart, words-joined, both-l, both-r, both-i, upTo-at}
 use Rattle.remy.specs.declared.simulation.Next.the-variants as Next
-use Rattle.ranges.specs.Frame.{ringsTest, clockHeld, frameTest}
-use Rattle.clauses.specs.Tests.{packetTest, waitsTest, transitTest, waitingTest, onLineTest, dueTest, packetsTest, firstDue, waitingOf, onLineOf, Counts, sendersTest, partTime, placeTest, emptyTest, nextTest, placesTest, queueTest}
+use Rattle.ranges.specs.Frame.{ringsTest, lineTest, linesTest, clockHeld, frameTest}
+use Rattle.ranges.proofs.UpTo.{up-same}
+use Rattle.clauses.specs.Tests.{packetTest, waitsTest, transitTest, waitingTest, onLineTest, dueTest, linePacketsTest, packetsTest, lineOf, linesOf, Counts, sendersTest, linkTime, LinkTimes, partTime, placeTest, emptyTest, nextTest, placesTest, queueTest}
 use Rattle.clauses.proofs.Members.{senders-same}
-use Rattle.fitness.proofs.Clauses.{same-test, and-2, and-3, and-4, and-5, every-imp, every-and, every-map, upTo-i, count-map, packet-clauses, clauses-packet, SenderClauses, sender-clauses, clauses-sender, own-same, queued-same}
+use Rattle.fitness.proofs.Clauses.{same-test, and-2, and-3, and-4, and-5, every-imp, every-and, every-map, upTo-i, packet-clauses, clauses-packet, SenderClauses, sender-clauses, clauses-sender, part-same, queued-same}
 
 module _ (s : Simulation) where
   -- ---- the groups' tests of the state
 
   abbrev pub frame : Bool
-  frame = frameTest (s .network) (s .head) (s .line)
+  frame = frameTest (s .network) (s .head) (s .lines)
 
   abbrev pub packets : Bool
   packets =
-      packetsTest (s .senders) (s .network .bits) (s .network .senders) (s .head .clock) (s .waiting) (s .line .waiting) (s .line .«buffer_contains») (s .«on_line»)
-      (s .line .«on_line»)
+      packetsTest (s .senders) (s .network .bits) (s .network .senders) (s .head .clock) (s .waiting) (s .«on_line») (s .lines) (lineCount (s .network))
 
-  -- the bits of sender i's packets, those that wait, and those on the line
+  -- the bits of sender i's packets, and how many of them wait or are on a line
   abbrev sizes : ℕ → ℕ
   sizes i = senderBits (s .network) i .0
 
-  abbrev waits-of : ℕ → ℕ
-  waits-of i = waitingOf i (s .waiting) (s .line .waiting)
-
-  abbrev moves-of : ℕ → ℕ
-  moves-of i = onLineOf i (s .«on_line») (s .line .«on_line»)
+  abbrev ways : ℕ → ℕ
+  ways i = linesOf (s .waiting) (s .«on_line») (s .lines) (lineCount (s .network)) i
 
   abbrev pub senders : Bool
-  senders =
-      sendersTest (s .network .policy) sizes (s .head .clock) waits-of moves-of (s .network .senders) (s .senders) (s .togglers) (s .meters)
+  senders = sendersTest (s .network .policy) sizes (s .head .clock) ways (s .network .senders) (s .senders) (s .togglers) (s .meters)
 
-  abbrev queue : Bool
-  queue =
-      queueTest (s .network .senders) (s .line) (s .head .clock) (firstDue (s .«on_line») (s .line .«on_line»)) (s .senders) (s .togglers) (s .queue) (s .head .next)
+  abbrev place-held : ℕ → Bool
+  place-held k = heldQueued s (queuedAt s k)
 
-  -- ---- network, head and line
+  abbrev place-own : ℕ → Bool
+  place-own k = isNext (s .head .next) k || sameTime (queuedAt s k) (nextTimeOf s k)
 
-  rings-same : ringsTest (s .line) ≡ ringsFit s
-  unfolding ringsTest ringsFit
-  rings-same = refl
+  abbrev pub queue : Bool
+  queue = nextFit s (s .head .next) && upTo queuePlaces (λ k. place-held k && place-own k)
+
+  -- ---- every line
+
+  abbrev there : ℕ → Type 0
+  there l = l < lineCount (s .network)
+
+  each-line : (f : ℕ → Bool) → ((l : ℕ) → there l → f l ≡ true) → eachLine s f ≡ true
+  each-line f = upTo-i (lineCount (s .network)) f
+
+  at-line : (f : ℕ → Bool) → eachLine s f ≡ true → (l : ℕ) → there l → f l ≡ true
+  at-line f = upTo-at (lineCount (s .network)) f
+
+  -- ---- network, head and lines
+
+  -- the clauses of line l that do not read the packets
+  record LineFrame (l : ℕ) : Type 0 where
+    rings : ringsTest (lineAt s l) ≡ true
+    earliest : held (lineAt s l .«earliest_transmit») ≡ true
+    words : not (allZero (lineAt s l .rng)) ≡ true
 
   record Frame : Type 0 where
     network : networkFit s ≡ true
-    rings : ringsFit s ≡ true
     clock : clockFit s ≡ true
     clock-held : clockHeld (s .head) ≡ true
-    earliest : held (s .line .«earliest_transmit») ≡ true
-    words : not (allZero (s .line .rng)) ≡ true
+    lines : (l : ℕ) → there l → LineFrame l
 
   from-frame : frame ≡ true → Frame
-  unfolding frameTest networkFit clockFit
+  unfolding frameTest linesTest lineTest networkFit clockFit
   from-frame e =
-      let a = eqb (networkStop (s .network)) 0 in
-      let b = ringsTest (s .line) in
-      let c = le zeroF (s .head .clock .0 .0) in
-      let d = clockHeld (s .head) in
-      let f = held (s .line .«earliest_transmit») in
-      let x = and-4 (a && b && c) d f (not (allZero (s .line .rng))) e in
-      let y = and-3 a b c (x .0) in
-      record { network = y .0; rings = sym rings-same ∙ y .1; clock = y .2; clock-held = x .1; earliest = x .2; words = x .3 }
+      let x = and-4 (eqb (networkStop (s .network)) 0) (le zeroF (s .head .clock .0 .0)) (clockHeld (s .head)) (linesTest (s .lines) (lineCount (s .network))) e in
+      record {
+        network = x .0;
+        clock = x .1;
+        clock-held = x .2;
+        lines = λ l h.
+            let y = and-3 (ringsTest (lineAt s l)) (held (lineAt s l .«earliest_transmit»)) (not (allZero (lineAt s l .rng))) (at-line _ (x .3) l h) in
+            record { rings = y .0; earliest = y .1; words = y .2 };
+      }
 
   to-frame : Frame → frame ≡ true
-  unfolding frameTest networkFit clockFit
-  to-frame f = rw (f .network, rings-same ∙ f .rings, f .clock, f .clock-held, f .earliest, f .words)
+  unfolding frameTest linesTest lineTest networkFit clockFit
+  to-frame f =
+      rw (f .network, f .clock, f .clock-held)
+      (each-line _ (λ l h. let x = f .lines l h in both-i _ _ (both-i _ _ (x .rings) (x .earliest)) (x .words)))
+
+  from-rings : ringsFit s ≡ true → (l : ℕ) → there l → ringsTest (lineAt s l) ≡ true
+  unfolding ringsTest ringsFit
+  from-rings e = at-line _ e
+
+  to-rings : ((l : ℕ) → there l → ringsTest (lineAt s l) ≡ true) → ringsFit s ≡ true
+  unfolding ringsTest ringsFit
+  to-rings all = each-line _ all
 
   -- ---- packets
 
@@ -133,118 +157,110 @@ module _ (s : Simulation) where
   abbrev moves : Transit → Bool
   moves = holding (λ x. x .packet) (λ x. held (x .due))
 
-  abbrev summed : Bool
-  summed = eqb (s .line .«buffer_contains» .0) (totalBits (waitingItems s))
+  abbrev summed : ℕ → Bool
+  summed l = eqb (lineAt s l .«buffer_contains» .0) (totalBits (waitingItems s l))
 
-  record Packets : Type 0 where
-    waiting : Passing (waitingPackets s)
-    carried : carriedFit s ≡ true
-    bits : bitsFit s ≡ true
-    on-line : Passing (onLinePackets s)
-    due-held : every (λ x. held (x .due)) (onLineItems s) ≡ true
-    due : dueFit s ≡ true
+  -- the clauses of the packets of line l
+  record LinePackets (l : ℕ) : Type 0 where
+    waiting : Passing (waitingPackets s l)
+    carried : every (carries s) (waitingItems s l) ≡ true
+    bits : summed l ≡ true
+    on-line : Passing (onLinePackets s l)
+    due-held : every (λ x. held (x .due)) (onLineItems s l) ≡ true
+    due : rising (onLineItems s l) ≡ true
 
-  from-packets : packets ≡ true → Packets
-  unfolding packetsTest waitingTest waitsTest onLineTest transitTest dueTest bitsFit carriedFit dueFit
-  from-packets e =
-      let a = and-3 (every waits (waitingItems s) && summed) (every moves (onLineItems s)) (rising (onLineItems s)) e in
-      let b = and-2 (every waits (waitingItems s)) summed (a .0) in
-      let w = from-holding (λ x. x .packet) (carries s) (waitingItems s) (b .0) in
-      let o = from-holding (λ x. x .packet) (λ x. held (x .due)) (onLineItems s) (a .1) in
+  from-packets : packets ≡ true → (l : ℕ) → there l → LinePackets l
+  unfolding packetsTest linePacketsTest waitingTest waitsTest onLineTest transitTest dueTest
+  from-packets e l h =
+      let a = and-3 (every waits (waitingItems s l) && summed l) (every moves (onLineItems s l)) (rising (onLineItems s l)) (at-line _ e l h) in
+      let b = and-2 (every waits (waitingItems s l)) (summed l) (a .0) in
+      let w = from-holding (λ x. x .packet) (carries s) (waitingItems s l) (b .0) in
+      let o = from-holding (λ x. x .packet) (λ x. held (x .due)) (onLineItems s l) (a .1) in
       record { waiting = w .0; carried = w .1; bits = b .1; on-line = o .0; due-held = o .1; due = a .2 }
 
-  to-packets : Packets → packets ≡ true
-  unfolding packetsTest waitingTest waitsTest onLineTest transitTest dueTest bitsFit carriedFit dueFit
-  to-packets p =
-      let w = to-holding (λ x. x .packet) (carries s) (waitingItems s) (p .waiting) (p .carried) in
-      let o = to-holding (λ x. x .packet) (λ x. held (x .due)) (onLineItems s) (p .on-line) (p .due-held) in
-      both-i (every waits (waitingItems s) && summed && every moves (onLineItems s)) (rising (onLineItems s))
-      (both-i (every waits (waitingItems s) && summed) (every moves (onLineItems s)) (both-i (every waits (waitingItems s)) summed w (p .bits)) o) (p .due)
+  to-packets : ((l : ℕ) → there l → LinePackets l) → packets ≡ true
+  unfolding packetsTest linePacketsTest waitingTest waitsTest onLineTest transitTest dueTest
+  to-packets all =
+      each-line _
+      (λ l h.
+      let p = all l h in
+      let w = to-holding (λ x. x .packet) (carries s) (waitingItems s l) (p .waiting) (p .carried) in
+      let o = to-holding (λ x. x .packet) (λ x. held (x .due)) (onLineItems s l) (p .on-line) (p .due-held) in
+      both-i (every waits (waitingItems s l) && summed l && every moves (onLineItems s l)) (rising (onLineItems s l))
+      (both-i (every waits (waitingItems s l) && summed l) (every moves (onLineItems s l)) (both-i (every waits (waitingItems s l)) (summed l) w (p .bits)) o) (p .due))
+
+  -- the test of so many lines as there are is the test
+  pub by-lines : (count : ℕ) → count ≡ lineCount (s .network) → (r : Bool)
+      → r
+      ≡ packetsTest (s .senders) (s .network .bits) (s .network .senders) (s .head .clock) (s .waiting) (s .«on_line») (s .lines) count
+      → r ≡ packets
+  by-lines count e r q =
+      q ∙ ap (packetsTest (s .senders) (s .network .bits) (s .network .senders) (s .head .clock) (s .waiting) (s .«on_line») (s .lines)) e
 
   -- ---- senders
 
-  counts-same : (i : ℕ)
-      → leb (meterAt s i .records + waits-of i + moves-of i) (senderAt s i .«packets_sent»)
-      ≡ leb (meterAt s i .records + countOf i (waitingPackets s) + countOf i (onLinePackets s)) (senderAt s i .«packets_sent»)
-  unfolding waitingOf onLineOf
-  counts-same i =
-      ap₂ (λ (a b : ℕ). leb (meterAt s i .records + a + b) (senderAt s i .«packets_sent»)) (sym (count-map (λ x. x .packet) i (waitingItems s)))
-      (sym (count-map (λ x. x .packet) i (onLineItems s)))
-
-  -- the test through the counts of the rings is the test
-  pub by-counts : s .network .senders ≤ 16 → (waits moves : List ℕ) → Counts waits-of waits → Counts moves-of moves → (r : Bool)
-      → r
-      ≡ sendersTest (s .network .policy) sizes (s .head .clock) (λ i. getD waits i 0) (λ i. getD moves i 0) (s .network .senders) (s .senders) (s .togglers)
-      (s .meters)
+  -- the test through the counts of the lines is the test
+  pub by-counts : (count : ℕ) → count ≡ lineCount (s .network) → s .network .senders ≤ 16 → (counts : List ℕ)
+      → Counts 2048 (linesOf (s .waiting) (s .«on_line») (s .lines) count) counts → (r : Bool)
+      → r ≡ sendersTest (s .network .policy) sizes (s .head .clock) (λ i. getD counts i 0) (s .network .senders) (s .senders) (s .togglers) (s .meters)
       → r ≡ senders
-  by-counts few waits moves w m r e =
-      e ∙ senders-same _ _ _ _ _ _ _ _ waits-of moves-of (s .network .senders) (λ i h. w .each i (omega arith)) (λ i h. m .each i (omega arith))
+  by-counts count e few counts c r q =
+      q
+      ∙ senders-same _ _ _ _ _ _ _ ways (s .network .senders)
+      (λ i h. c .each i (omega arith) ∙ ap (λ (n : ℕ). linesOf (s .waiting) (s .«on_line») (s .lines) n i) e)
 
-  from-senders : senders ≡ true → (i : ℕ) → i < s .network .senders → SenderClauses s i (waits-of i) (moves-of i)
+  from-senders : senders ≡ true → (i : ℕ) → i < s .network .senders → SenderClauses s i (ways i)
   unfolding sendersTest
-  from-senders e i h = sender-clauses s i (waits-of i) (moves-of i) (upTo-at (s .network .senders) _ e i h)
+  from-senders e i h = sender-clauses s i (ways i) (upTo-at (s .network .senders) _ e i h)
 
-  to-senders : ((i : ℕ) → i < s .network .senders → SenderClauses s i (waits-of i) (moves-of i)) → senders ≡ true
+  to-senders : ((i : ℕ) → i < s .network .senders → SenderClauses s i (ways i)) → senders ≡ true
   unfolding sendersTest
-  to-senders all = upTo-i (s .network .senders) _ (λ i h. clauses-sender s i (waits-of i) (moves-of i) (all i h))
+  to-senders all = upTo-i (s .network .senders) _ (λ i h. clauses-sender s i (ways i) (all i h))
 
   -- ---- the queue
 
-  abbrev own : ℕ → OptionTime
-  own k = partTime (s .network .senders) (s .line) (s .head .clock) (firstDue (s .«on_line») (s .line .«on_line»)) (s .senders) (s .togglers) k
+  -- the test through the times of the links is the test
+  module _ (links : List Queued) (t : LinkTimes (linkTime (s .lines) (s .«on_line») (s .head .clock)) (lineCount (s .network)) links) where
+    abbrev own : ℕ → OptionTime
+    own k = partTime (s .network .senders) (hasBack (s .network .back)) links (s .head .clock) (s .senders) (s .togglers) k
 
-  abbrev next-test : Next → Bool
-  next-test next =
-      nextTest (s .network .senders) (s .line) (s .head .clock) (firstDue (s .«on_line») (s .line .«on_line»)) (s .senders) (s .togglers) (s .queue) next
+    next-same : (next : Next)
+        → nextTest (s .network .senders) (hasBack (s .network .back)) links (s .head .clock) (s .senders) (s .togglers) (s .queue) next
+        ≡ nextFit s next
+    unfolding nextTest emptyTest
+    next-same Next.None = refl
+    next-same (Next.Part j) = ap (sameTime (Some (s .head .clock))) (part-same s links t j)
 
-  part-same : (k : ℕ) → own k ≡ nextTimeOf s k
-  unfolding partTime
-  part-same k = own-same s (roleOf (s .network .senders) k)
+    place-same : (k : ℕ) → placeTest (s .head .next) (s .head .clock) k (queuedAt s k) (own k) ≡ (place-held k && place-own k)
+    unfolding placeTest
+    place-same k =
+        ap₂ (λ (h : Bool) (u : OptionTime). h && (isNext (s .head .next) k || sameTime (queuedAt s k) u)) (queued-same s (queuedAt s k)) (part-same s links t k)
 
-  next-same : (next : Next) → next-test next ≡ nextFit s next
-  unfolding nextTest emptyTest
-  next-same Next.None = refl
-  next-same (Next.Part j) = ap (sameTime (Some (s .head .clock))) (part-same j)
+    links-same : queueTest (s .network .senders) (hasBack (s .network .back)) links (s .head .clock) (s .senders) (s .togglers) (s .queue) (s .head .next) ≡ queue
+    unfolding queueTest placesTest
+    links-same = ap₂ (λ (a b : Bool). a && b) (next-same (s .head .next)) (up-same _ _ queuePlaces (λ k h. place-same k))
 
-  abbrev place : ℕ → Bool
-  place k = placeTest (s .head .next) (s .head .clock) k (queuedAt s k) (own k)
+  pub by-links : (count : ℕ) → count ≡ lineCount (s .network) → (links : List Queued) → LinkTimes (linkTime (s .lines) (s .«on_line») (s .head .clock)) count links
+      → (back : Bool) → back ≡ hasBack (s .network .back) → (r : Bool)
+      → r ≡ queueTest (s .network .senders) back links (s .head .clock) (s .senders) (s .togglers) (s .queue) (s .head .next)
+      → r ≡ queue
+  by-links count e links t back f r q =
+      q
+      ∙ ap (λ (b : Bool). queueTest (s .network .senders) b links (s .head .clock) (s .senders) (s .togglers) (s .queue) (s .head .next)) f
+      ∙ links-same links (subst (λ (n : ℕ). LinkTimes (linkTime (s .lines) (s .«on_line») (s .head .clock)) n links) e t)
 
-  abbrev place-held : ℕ → Bool
-  place-held k = heldQueued s (queuedAt s k)
-
-  abbrev place-own : ℕ → Bool
-  place-own k = isNext (s .head .next) k || sameTime (queuedAt s k) (nextTimeOf s k)
-
-  place-is : (k : ℕ) → place k ≡ (place-held k && place-own k)
-  unfolding placeTest
-  place-is k =
-      ap₂ (λ (h : Bool) (t : OptionTime). h && (isNext (s .head .next) k || sameTime (queuedAt s k) t)) (queued-same s (queuedAt s k)) (part-same k)
-
-  places : ℕ → Bool
-  places n =
-      placesTest (s .network .senders) (s .line) (s .head .clock) (firstDue (s .«on_line») (s .line .«on_line»)) (s .senders) (s .togglers) n (s .queue) (s .head .next)
-
-  places-held : (n : ℕ) → places n ≡ true → upTo n place-held ≡ true
-  unfolding places placesTest
-  places-held n e = upTo-i n place-held (λ k h. both-l (place-held k) (place-own k) (sym (place-is k) ∙ upTo-at n place e k h))
-
-  places-own : (n : ℕ) → places n ≡ true → upTo n place-own ≡ true
-  unfolding places placesTest
-  places-own n e = upTo-i n place-own (λ k h. both-r (place-held k) (place-own k) (sym (place-is k) ∙ upTo-at n place e k h))
-
-  to-places : (n : ℕ) → upTo n place-held ≡ true → upTo n place-own ≡ true → places n ≡ true
-  unfolding places placesTest
-  to-places n e f = upTo-i n place (λ k h. place-is k ∙ both-i (place-held k) (place-own k) (upTo-at n place-held e k h) (upTo-at n place-own f k h))
-
-  from-queue : queue ≡ true → (nextFit s (s .head .next) ≡ true) × (places queuePlaces ≡ true)
-  unfolding queueTest places
+  from-queue : queue ≡ true → (nextFit s (s .head .next) ≡ true) × (upTo queuePlaces place-held ≡ true) × (upTo queuePlaces place-own ≡ true)
   from-queue e =
-      let a = and-2 (next-test (s .head .next)) (places queuePlaces) e in
-      (sym (next-same (s .head .next)) ∙ a .0, a .1)
+      let a = and-2 (nextFit s (s .head .next)) (upTo queuePlaces (λ k. place-held k && place-own k)) e in (
+        a .0,
+        upTo-i queuePlaces place-held (λ k h. both-l (place-held k) (place-own k) (upTo-at queuePlaces (λ j. place-held j && place-own j) (a .1) k h)),
+        upTo-i queuePlaces place-own (λ k h. both-r (place-held k) (place-own k) (upTo-at queuePlaces (λ j. place-held j && place-own j) (a .1) k h)),
+      )
 
-  to-queue : nextFit s (s .head .next) ≡ true → places queuePlaces ≡ true → queue ≡ true
-  unfolding queueTest places
-  to-queue e f = both-i _ (places queuePlaces) (next-same (s .head .next) ∙ e) f
+  to-queue : nextFit s (s .head .next) ≡ true → upTo queuePlaces place-held ≡ true → upTo queuePlaces place-own ≡ true → queue ≡ true
+  to-queue e f g =
+      both-i (nextFit s (s .head .next)) (upTo queuePlaces (λ k. place-held k && place-own k)) e
+      (upTo-i queuePlaces _ (λ k h. both-i (place-held k) (place-own k) (upTo-at queuePlaces place-held f k h) (upTo-at queuePlaces place-own g k h)))
 
   -- ---- the clauses of which several groups test a part
 
@@ -253,10 +269,10 @@ module _ (s : Simulation) where
 
   record HeldTimes : Type 0 where
     clock : clockHeld (s .head) ≡ true
-    earliest : held (s .line .«earliest_transmit») ≡ true
-    waiting : every (λ p. held (p .«sent_time»)) (waitingPackets s) ≡ true
-    on-line : every (λ p. held (p .«sent_time»)) (onLinePackets s) ≡ true
-    due : every (λ x. held (x .due)) (onLineItems s) ≡ true
+    earliest : eachLine s (λ l. held (lineAt s l .«earliest_transmit»)) ≡ true
+    waiting : eachLine s (λ l. every (λ p. held (p .«sent_time»)) (waitingPackets s l)) ≡ true
+    on-line : eachLine s (λ l. every (λ p. held (p .«sent_time»)) (onLinePackets s l)) ≡ true
+    due : eachLine s (λ l. every (λ x. held (x .due)) (onLineItems s l)) ≡ true
     states : each (λ i. heldSender (senderAt s i .state)) ≡ true
     toggles : each (λ i. held (togglerAt s i .«next_toggle»)) ≡ true
     starts : each (λ i. heldIfAny (meterAt s i .«current_start»)) ≡ true
@@ -277,10 +293,10 @@ module _ (s : Simulation) where
   unfolding heldTimesFit clockHeld
   from-held e =
       let a = clockHeld (s .head) in
-      let b = held (s .line .«earliest_transmit») in
-      let c = every (λ p. held (p .«sent_time»)) (waitingPackets s) in
-      let d = every (λ p. held (p .«sent_time»)) (onLinePackets s) in
-      let f = every (λ x. held (x .due)) (onLineItems s) in
+      let b = eachLine s (λ l. held (lineAt s l .«earliest_transmit»)) in
+      let c = eachLine s (λ l. every (λ p. held (p .«sent_time»)) (waitingPackets s l)) in
+      let d = eachLine s (λ l. every (λ p. held (p .«sent_time»)) (onLinePackets s l)) in
+      let f = eachLine s (λ l. every (λ x. held (x .due)) (onLineItems s l)) in
       let g = each (λ i. heldSender (senderAt s i .state)) in
       let h = each (λ i. held (togglerAt s i .«next_toggle»)) in
       let k = each (λ i. heldIfAny (meterAt s i .«current_start»)) in
@@ -290,8 +306,8 @@ module _ (s : Simulation) where
       record { clock = x .0; earliest = x .1; waiting = x .2; on-line = x .3; due = x .4; states = y .1; toggles = y .2; starts = y .3; queued = y .4 }
 
   record Past : Type 0 where
-    waiting : every (λ p. sinceStart s (p .«sent_time»)) (waitingPackets s) ≡ true
-    on-line : every (λ p. sinceStart s (p .«sent_time»)) (onLinePackets s) ≡ true
+    waiting : eachLine s (λ l. every (λ p. sinceStart s (p .«sent_time»)) (waitingPackets s l)) ≡ true
+    on-line : eachLine s (λ l. every (λ p. sinceStart s (p .«sent_time»)) (onLinePackets s l)) ≡ true
     started : each (λ i. startedFit s (senderAt s i .state)) ≡ true
     starts : each (λ i. meterStartFit s (meterAt s i .«current_start»)) ≡ true
 
@@ -303,13 +319,33 @@ module _ (s : Simulation) where
   unfolding pastFit
   from-past e =
       let x =
-      and-4 (every (λ p. sinceStart s (p .«sent_time»)) (waitingPackets s)) (every (λ p. sinceStart s (p .«sent_time»)) (onLinePackets s))
+      and-4 (eachLine s (λ l. every (λ p. sinceStart s (p .«sent_time»)) (waitingPackets s l)))
+      (eachLine s (λ l. every (λ p. sinceStart s (p .«sent_time»)) (onLinePackets s l)))
       (each (λ i. startedFit s (senderAt s i .state))) (each (λ i. meterStartFit s (meterAt s i .«current_start»))) e in
       record { waiting = x .0; on-line = x .1; started = x .2; starts = x .3 }
 
-  packets-parts : packetsFit s ≡ (every (packetFit s) (waitingPackets s) && every (packetFit s) (onLinePackets s))
-  unfolding packetsFit
-  packets-parts = refl
+  -- the clauses of the packets, line by line
+  all-packets : ((l : ℕ) → there l → LinePackets l) → (packetsFit s ≡ true) × (bitsFit s ≡ true) × (carriedFit s ≡ true) × (dueFit s ≡ true)
+  unfolding packetsFit bitsFit carriedFit dueFit
+  all-packets all = (
+    each-line _ (λ l h. both-i _ _ (all l h .waiting .known) (all l h .on-line .known)),
+    each-line _ (λ l h. all l h .bits),
+    each-line _ (λ l h. all l h .carried),
+    each-line _ (λ l h. all l h .due),
+  )
+
+  line-packets : FitState s → HeldTimes → Past → (l : ℕ) → there l → LinePackets l
+  unfolding packetsFit bitsFit carriedFit dueFit
+  line-packets f t p l h =
+      let known = and-2 (every (packetFit s) (waitingPackets s l)) (every (packetFit s) (onLinePackets s l)) (at-line _ (f .packets) l h) in
+      record {
+        waiting = record { known = known .0; times = at-line _ (t .waiting) l h; past = at-line _ (p .waiting) l h };
+        carried = at-line _ (f .carried) l h;
+        bits = at-line _ (f .bits) l h;
+        on-line = record { known = known .1; times = at-line _ (t .on-line) l h; past = at-line _ (p .on-line) l h };
+        due-held = at-line _ (t .due) l h;
+        due = at-line _ (f .due) l h;
+      }
 
   queue-parts : queueFit s ≡ (nextFit s (s .head .next) && upTo queuePlaces place-own)
   unfolding queueFit
@@ -317,7 +353,7 @@ module _ (s : Simulation) where
 
   -- ---- the clauses of the senders
 
-  all-senders : ((i : ℕ) → i < s .network .senders → SenderClauses s i (waits-of i) (moves-of i)) → (totalsFit s ≡ true)
+  all-senders : ((i : ℕ) → i < s .network .senders → SenderClauses s i (ways i)) → (totalsFit s ≡ true)
       × (sumsFit s ≡ true)
       × (recordsFit s ≡ true)
       × (countsFit s ≡ true)
@@ -326,12 +362,12 @@ module _ (s : Simulation) where
       × (togglersAgree s ≡ true)
       × (metersAgree s ≡ true)
       × (meterBitsFit s ≡ true)
-  unfolding totalsFit sumsFit recordsFit countsFit windowsFit timersFit togglersAgree metersAgree meterBitsFit
+  unfolding totalsFit sumsFit recordsFit countsFit windowsFit timersFit togglersAgree metersAgree meterBitsFit linesOf lineOf
   all-senders c =
       let n = s .network .senders in (
         upTo-i n _ (λ i h. c i h .total),
         upTo-i n _ (λ i h. c i h .sum),
-        upTo-i n _ (λ i h. sym (counts-same i) ∙ c i h .records),
+        upTo-i n _ (λ i h. c i h .records),
         upTo-i n _ (λ i h. both-i _ _ (c i h .few) (c i h .state .ack)),
         upTo-i n _ (λ i h. c i h .state .window),
         upTo-i n _ (λ i h. c i h .state .timer),
@@ -340,8 +376,8 @@ module _ (s : Simulation) where
         upTo-i n _ (λ i h. c i h .bits),
       )
 
-  each-sender : FitState s → HeldTimes → Past → FitWords s → (i : ℕ) → i < s .network .senders → SenderClauses s i (waits-of i) (moves-of i)
-  unfolding totalsFit sumsFit recordsFit countsFit windowsFit timersFit togglersAgree metersAgree meterBitsFit
+  each-sender : FitState s → HeldTimes → Past → FitWords s → (i : ℕ) → i < s .network .senders → SenderClauses s i (ways i)
+  unfolding totalsFit sumsFit recordsFit countsFit windowsFit timersFit togglersAgree metersAgree meterBitsFit linesOf lineOf
   each-sender f t p w i h =
       let n = s .network .senders in
       let few = and-2 (leb (senderAt s i .«packets_sent») 16777216) (ackFit (senderAt s i .state)) (upTo-at n _ (f .counts) i h) in
@@ -360,7 +396,7 @@ module _ (s : Simulation) where
         sum = upTo-at n _ (f .sums) i h;
         bits = upTo-at n _ (f .meter-bits) i h;
         few = few .0;
-        records = counts-same i ∙ upTo-at n _ (f .records) i h;
+        records = upTo-at n _ (f .records) i h;
         toggler-on = upTo-at n _ (f .togglers) i h;
         meter-on = upTo-at n _ (f .meters) i h;
         words = upTo-at n _ (w .senders) i h;
@@ -377,44 +413,50 @@ module _ (s : Simulation) where
       let c = from-senders d in
       let q = from-queue e in
       let x = all-senders c in
+      let y = all-packets p in
       record {
         network = f .network;
-        rings = f .rings;
-        packets = packets-parts ∙ both-i _ _ (p .waiting .known) (p .on-line .known);
-        bits = p .bits;
+        rings = to-rings (λ l h. f .lines l h .rings);
+        packets = y .0;
+        bits = y .1;
         clock = f .clock;
         held = to-held
             (record {
               clock = f .clock-held;
-              earliest = f .earliest;
-              waiting = p .waiting .times;
-              on-line = p .on-line .times;
-              due = p .due-held;
+              earliest = each-line _ (λ l h. f .lines l h .earliest);
+              waiting = each-line _ (λ l h. p l h .waiting .times);
+              on-line = each-line _ (λ l h. p l h .on-line .times);
+              due = each-line _ (λ l h. p l h .due-held);
               states = upTo-i n _ (λ i h. c i h .state .times);
               toggles = upTo-i n _ (λ i h. c i h .toggle);
               starts = upTo-i n _ (λ i h. c i h .meter-held);
-              queued = places-held queuePlaces (q .1);
+              queued = q .1;
             });
         past = to-past
             (record {
-              waiting = p .waiting .past;
-              on-line = p .on-line .past;
+              waiting = each-line _ (λ l h. p l h .waiting .past);
+              on-line = each-line _ (λ l h. p l h .on-line .past);
               started = upTo-i n _ (λ i h. c i h .state .started);
               starts = upTo-i n _ (λ i h. c i h .meter-start);
             });
         totals = x .0;
         sums = x .1;
         records = x .2;
-        due = p .due;
+        due = y .3;
         counts = x .3;
         windows = x .4;
         timers = x .5;
         togglers = x .6;
         meters = x .7;
         meter-bits = x .8;
-        queue = queue-parts ∙ both-i _ _ (q .0) (places-own queuePlaces (q .1));
-        carried = p .carried;
-        words = words-joined s (record { link = f .words; senders = upTo-i n _ (λ i h. c i h .words); togglers = upTo-i n _ (λ i h. c i h .toggler-words) });
+        queue = queue-parts ∙ both-i _ _ (q .0) (q .2);
+        carried = y .2;
+        words = words-joined s
+            (record {
+              link = each-line _ (λ l h. f .lines l h .words);
+              senders = upTo-i n _ (λ i h. c i h .words);
+              togglers = upTo-i n _ (λ i h. c i h .toggler-words);
+            });
       }
 
   fit-of : FitState s → fit s ≡ true
@@ -448,23 +490,20 @@ module _ (s : Simulation) where
       let t = from-held (f .held) in
       let p = from-past (f .past) in
       let g = words-apart s (f .words) in
-      let w = and-2 (every (packetFit s) (waitingPackets s)) (every (packetFit s) (onLinePackets s)) (sym packets-parts ∙ f .packets) in
       let q = and-2 (nextFit s (s .head .next)) (upTo queuePlaces place-own) (sym queue-parts ∙ f .queue) in
       both-i (frame && packets && senders) queue
       (both-i (frame && packets) senders
       (both-i frame packets
-      (to-frame (record { network = f .network; rings = f .rings; clock = f .clock; clock-held = t .clock; earliest = t .earliest; words = g .link }))
-      (to-packets
+      (to-frame
       (record {
-        waiting = record { known = w .0; times = t .waiting; past = p .waiting };
-        carried = f .carried;
-        bits = f .bits;
-        on-line = record { known = w .1; times = t .on-line; past = p .on-line };
-        due-held = t .due;
-        due = f .due;
-      })))
+        network = f .network;
+        clock = f .clock;
+        clock-held = t .clock;
+        lines = λ l h. record { rings = from-rings (f .rings) l h; earliest = at-line _ (t .earliest) l h; words = at-line _ (g .link) l h };
+      }))
+      (to-packets (line-packets f t p)))
       (to-senders (each-sender f t p g)))
-      (to-queue (q .0) (to-places queuePlaces (t .queued) (q .1)))
+      (to-queue (q .0) (t .queued) (q .1))
 
   pub groups-fit : (frame && packets && senders && queue) ≡ fit s
   groups-fit =

@@ -1,40 +1,40 @@
 -- What the fit test and the test of the due times say of a steady state. Assumes nothing.
-use mathlib.Core.Path.{_≡_, sym, _∙_}
-use mathlib.Core.Bool.{Bool, true, false, not, _&&_}
-use Prim.Native.Nat.{_≤_, _<_}
-use borrow.Author.Tests.{not-true, not-false, leb-true, ltb-true}
-use lib.Dec.{leb, ltb}
-use Rattle.quantities.specs.declared.time.Time.{Time}
-use Rattle.quantities.specs.Units.{spanOf, spanAfter}
-use Rattle.link.specs.Ring.{places}
+use mathlib.Core.Path.{_≡_, sym, ap, _∙_}
+use mathlib.Core.Bool.{Bool, true, false, not}
+use borrow.Author.Tests.{not-true, not-false}
+use Prim.Native.Nat.{ℕ}
 use Rattle.remy.specs.declared.simulation.Simulation.{Simulation}
+use Rattle.remy.specs.State.{lineCount}
 use Rattle.remy.specs.Fit.{ringsFit, fit}
-use Rattle.remy.proofs.Facts.{both-l, both-r, fit-state}
-use Rattle.steady.specs.Steady.{steady}
-use Rattle.clauses.specs.Tests.{soonTest}
+use Rattle.remy.proofs.Facts.{fit-state, upTo-at}
+use Rattle.ranges.specs.Frame.{ringsTest, AllInRings}
+use Rattle.ranges.proofs.Bounds.{in-rings, values-same}
+use Rattle.ranges.proofs.UpTo.{up-same}
+use Rattle.steady.specs.Steady.{soonFit, steady}
+use Rattle.clauses.specs.Tests.{soonOnTest, soonTest}
 
-module _ (s : Simulation) (r : Bool) (e : r ≡ fit s) where
-  pub not-steady : not r ≡ true → false ≡ steady s
-  unfolding steady
-  not-steady t = rw (sym e ∙ not-true r t)
+module _ (s : Simulation) where
+  soon-same : soonTest (s .network .line) (s .network .back) (s .head .clock) (s .«on_line») (s .lines) (lineCount (s .network)) ≡ soonFit s
+  unfolding soonTest soonOnTest
+  soon-same =
+      up-same _ _ (lineCount (s .network)) (λ l h. rw (values-same (s .network) l))
 
-  module _ (t : not r ≡ false) where
-    passed : fit s ≡ true
-    passed = sym e ∙ not-false r t
+  module _ (r : Bool) (e : r ≡ fit s) where
+    pub not-steady : not r ≡ true → false ≡ steady s
+    unfolding steady
+    not-steady t = rw (sym e ∙ not-true r t)
 
-    -- the ring of the line
-    pub moving-bounds : (s .line .«on_line» .start < places) × (s .line .«on_line» .count ≤ places)
-    unfolding ringsFit
-    moving-bounds =
-        let rings = fit-state s passed .rings in
-        let a = leb (s .line .waiting .count) places in
-        let b = leb (s .line .«on_line» .count) places in
-        let c = ltb (s .line .waiting .start) places in
-        let d = ltb (s .line .«on_line» .start) places in (
-          ltb-true (s .line .«on_line» .start) places (both-r (a && b && c) d rings),
-          leb-true (s .line .«on_line» .count) places (both-r a b (both-l (a && b) c (both-l (a && b && c) d rings))),
-        )
+    module _ (t : not r ≡ false) where
+      passed : fit s ≡ true
+      passed = sym e ∙ not-false r t
 
-    pub steady-is : (latest : Time) → latest ≡ spanAfter (s .head .clock) (spanOf (s .network .delay)) → (q : Bool) → q ≡ soonTest latest (s .«on_line») (s .line .«on_line») → q ≡ steady s
-    unfolding steady soonTest
-    steady-is latest f q g = g ∙ rw (f, passed)
+      pub rings-bounds : AllInRings (s .lines) (lineCount (s .network))
+      unfolding ringsFit ringsTest
+      rings-bounds = record { each = λ l h. in-rings _ (upTo-at (lineCount (s .network)) _ (fit-state s passed .rings) l h) }
+
+      pub steady-is : (count : ℕ) → count ≡ lineCount (s .network) → (q : Bool)
+          → q ≡ soonTest (s .network .line) (s .network .back) (s .head .clock) (s .«on_line») (s .lines) count
+          → q ≡ steady s
+      unfolding steady
+      steady-is count c q g =
+          g ∙ ap (soonTest (s .network .line) (s .network .back) (s .head .clock) (s .«on_line») (s .lines)) c ∙ soon-same ∙ rw passed

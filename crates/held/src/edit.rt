@@ -33,9 +33,12 @@ pub(crate) fn edited(letter: u8, text: &[u8], at: usize, st: Simulation) -> Simu
     match letter {
         b'V' => network(text, at, st),
         b'C' => head(text, at, st),
-        b'L' => line(text, at, st),
-        b'W' => slots(text, at, st, false),
-        b'O' => slots(text, at, st, true),
+        b'L' => line(text, at, st, 0),
+        b'l' => line(text, at, st, 1),
+        b'W' => slots(text, at, st, 0, false),
+        b'w' => slots(text, at, st, 1, false),
+        b'O' => slots(text, at, st, 0, true),
+        b'o' => slots(text, at, st, 1, true),
         b'S' => sender(text, at, st),
         b'G' => toggler(text, at, st),
         b'M' => meter(text, at, st),
@@ -70,10 +73,14 @@ fn next_at(text: &[u8], at: usize, k: usize) -> Next {
     }
 }
 
-// L earliest-start bits, start and count of those that wait, start and count of those on the line
-fn line(text: &[u8], at: usize, st: Simulation) -> Simulation {
+// L earliest-start bits, start and count of those that wait, start and count of those on the line;
+// l likewise, of the return line
+fn line(text: &[u8], at: usize, st: Simulation, l: usize) -> Simulation
+    requires { ⌜ l < 2 ⌝ }
+{
     let mut out = st;
-    let rng = out.line.rng;
+    let old = out.lines[l];
+    let rng = old.rng;
     let waiting = Ring {
         start: size(text, at, 2),
         count: size(text, at, 3),
@@ -89,7 +96,7 @@ fn line(text: &[u8], at: usize, st: Simulation) -> Simulation {
         on_line,
         rng,
     };
-    out.line = line;
+    out.lines[l] = line;
     out
 }
 
@@ -110,9 +117,12 @@ fn at_most_512(n: usize) -> usize
     512
 }
 
-// O slot count sender sequence sent-time due: so many slots of those on the line
-// W slot count sender sequence sent-time bits: so many slots of those that wait
-fn slots(text: &[u8], at: usize, st: Simulation, on_line: bool) -> Simulation {
+// O place count sender sequence sent-time due: so many places of those on the line
+// W place count sender sequence sent-time bits: so many places of those that wait
+// o and w likewise, of the return line
+fn slots(text: &[u8], at: usize, st: Simulation, l: usize, on_line: bool) -> Simulation
+    requires { ⌜ l < 2 ⌝ }
+{
     let mut out = st;
     let start = size(text, at, 0);
     let n = at_most_512(size(text, at, 1));
@@ -123,14 +133,14 @@ fn slots(text: &[u8], at: usize, st: Simulation, on_line: bool) -> Simulation {
     let w = Waiting { packet, bits };
     let mut k: usize = 0;
     while k < n {
-        out = with_slot(out, slot(start, k), x, w, on_line);
+        out = with_slot(out, slot(l, start, k), x, w, on_line);
         k += 1;
     }
     out
 }
 
 fn with_slot(st: Simulation, i: usize, x: Transit, w: Waiting, on_line: bool) -> Simulation
-    requires { ⌜ i < 512 ⌝ }
+    requires { ⌜ i < 1024 ⌝ }
 {
     let mut out = st;
     if on_line {
@@ -218,7 +228,7 @@ fn meter(text: &[u8], at: usize, st: Simulation) -> Simulation {
 fn queue(text: &[u8], at: usize, st: Simulation) -> Simulation {
     let mut out = st;
     let k = size(text, at, 0);
-    if k < 33 {
+    if k < 35 {
         let time = time_if_any(text, at, 1);
         let place = Queued { time };
         out.queue[k] = place;

@@ -8,7 +8,8 @@
 //                            taken as `digest` and its own digest
 //     B network seed         builds; the simulation that is returned is held from then on
 //     K, Z                   keeps the held state; returns to the one that was kept
-//     V C L W O S G M Q      put one part of the held state anew (edit.rt)
+//     V C S G M Q            put one part of the held state anew (edit.rt)
+//     L W O, l w o           the same, of the first line and of the return line
 //     T                      one tick: number, whether it moved, whether any field of the state
 //                            changed, and its record where it did not move
 //     R count                a run: how many ticks, number, clock
@@ -18,9 +19,9 @@
 //     F i                    the flow of sender i
 //
 // A number is 16 hexadecimal digits, a double by its bits, an absent value 16 times '-'. A network is
-// 31 fields: delay, rate, loss, limit, the bits of 16 senders, how many there are; on and off, each a
+// 36 fields: delay, rate, loss, limit, the bits of 16 senders, how many there are; on and off, each a
 // kind (0 always, 1 uniform) and two doubles; the policy's kind (0 held, 1 grown, 2 timed), two numbers
-// and the gap.
+// and the gap; 1 for a return line or 0 for none, and its delay, rate, loss and limit.
 ghost use mathlib.Core.Path.{_≡_};
 ghost use lib.ListN.{length};
 
@@ -103,7 +104,7 @@ fn changed(letter: u8, text: &[u8], at: usize, st: Simulation) -> Simulation {
 
 fn build_at(text: &[u8], at: usize) -> Built {
     let network = network_at(text, at);
-    builder::build(network, number(text, at, 31))
+    builder::build(network, number(text, at, 36))
 }
 
 fn built(text: &[u8], at: usize) -> Simulation {
@@ -221,7 +222,7 @@ fn lines(out: Sink, text: &[u8], at: usize) -> Sink {
         return put(a, b"\n");
     }
     let fresh = b.simulation;
-    held(out, fresh, number(text, at, 32))
+    held(out, fresh, number(text, at, 37))
 }
 
 // So many ticks, or until one does not move.

@@ -21,6 +21,7 @@ use remy::Head;
 use remy::Mark;
 use remy::Name;
 use remy::Next;
+use remy::ReturnLine;
 use remy::Simulation;
 use remy::TickRecord;
 use sender::LossySender;
@@ -52,6 +53,9 @@ fn mark(out: Sink, mark: Mark) -> Sink {
         Mark::Counted => put(out, b"C"),
         Mark::Old => put(out, b"O"),
         Mark::Ignored => put(out, b"I"),
+        Mark::Passed => put(out, b"P"),
+        Mark::FullBack => put(out, b"Q"),
+        Mark::LostBack => put(out, b"N"),
     }
 }
 
@@ -68,35 +72,51 @@ pub(crate) fn pair(out: Sink, a: u64, b: u64) -> Sink {
 
 // The whole held state, with no line end.
 pub(crate) fn state(out: Sink, st: Simulation) -> Sink {
-    let waiting = st.line.waiting;
-    let on_line = st.line.on_line;
-    fields(out, st, waiting, on_line, few(st.network.senders) as usize)
+    let head = st.head;
+    let a = line(front(out, head), st, 0);
+    let n = few(st.network.senders) as usize;
+    let network = st.network;
+    let back = network.back;
+    match back {
+        ReturnLine::None => rest(a, st, n, 2 * n),
+        _ => rest(line(put(a, b" return"), st, 1), st, n, 2 * n + 2),
+    }
 }
 
-// What a state holds, with the packets of these rings and the parts of n senders.
-pub(crate) fn fields(out: Sink, st: Simulation, waiting: Ring, on_line: Ring, n: usize) -> Sink
-    requires { ⌜ n ≤ 16 ⌝ }
+fn front(out: Sink, head: Head) -> Sink {
+    let part = head.next;
+    let a = moment(put(out, b"state clock="), head.clock);
+    next(put(a, b" next="), part)
+}
+
+// What line l holds.
+fn line(out: Sink, st: Simulation, l: usize) -> Sink
+    requires { ⌜ l < 2 ⌝ }
 {
-    let head = st.head;
-    let line = st.line;
-    let a = front(out, head, line);
-    let b = packets(put(a, b" waiting="), st, waiting, false);
-    let c = packets(put(b, b" line="), st, on_line, true);
-    let d = words(put(c, b" link="), line.rng);
+    let line = st.lines[l];
+    let waiting = line.waiting;
+    let on_line = line.on_line;
+    let a = earliest(out, line);
+    let b = packets(put(a, b" waiting="), st, l, waiting, false);
+    let c = packets(put(b, b" line="), st, l, on_line, true);
+    words(put(c, b" link="), line.rng)
+}
+
+fn earliest(out: Sink, line: Line) -> Sink {
+    let a = moment(put(out, b" earliest="), line.earliest_transmit);
+    decimal(put(a, b" bits="), line.buffer_contains.0)
+}
+
+// The parts of n senders, and the queue up to the last part.
+fn rest(out: Sink, st: Simulation, n: usize, last: usize) -> Sink
+    requires { ⌜ (n ≤ 16) × (last ≤ 34) ⌝ }
+{
     let senders = st.senders;
     let togglers = st.togglers;
     let meters = st.meters;
     let places = st.queue;
-    let e = parts(d, senders, togglers, meters, n);
-    queue(put(e, b" queue="), places, n)
-}
-
-fn front(out: Sink, head: Head, line: Line) -> Sink {
-    let part = head.next;
-    let a = moment(put(out, b"state clock="), head.clock);
-    let b = next(put(a, b" next="), part);
-    let c = moment(put(b, b" earliest="), line.earliest_transmit);
-    decimal(put(c, b" bits="), line.buffer_contains.0)
+    let a = parts(out, senders, togglers, meters, n);
+    queue(put(a, b" queue="), places, last)
 }
 
 fn next(out: Sink, next: Next) -> Sink {
@@ -106,22 +126,24 @@ fn next(out: Sink, next: Next) -> Sink {
     }
 }
 
-// The packets of a ring, in order: those on the line, or those that wait.
-fn packets(out: Sink, st: Simulation, ring: Ring, on_line: bool) -> Sink {
+// The packets of a ring of line l, in order: those on the line, or those that wait.
+fn packets(out: Sink, st: Simulation, l: usize, ring: Ring, on_line: bool) -> Sink
+    requires { ⌜ l < 2 ⌝ }
+{
     if ring.count == 0 {
         return put(out, b"-");
     }
     let mut o = out;
     let mut k: usize = 0;
     while k < ring.count {
-        o = packet_at(separate(o, k), st, slot(ring.start, k), on_line);
+        o = packet_at(separate(o, k), st, slot(l, ring.start, k), on_line);
         k += 1;
     }
     o
 }
 
 fn packet_at(out: Sink, st: Simulation, at: usize, on_line: bool) -> Sink
-    requires { ⌜ at < 512 ⌝ }
+    requires { ⌜ at < 1024 ⌝ }
 {
     if on_line {
         let x = st.on_line[at];
@@ -154,15 +176,17 @@ fn separate(out: Sink, k: usize) -> Sink {
     put(out, b",")
 }
 
-pub(crate) fn slot(start: usize, k: usize) -> usize
-    ensures { λ r. ⌜ r < 512 ⌝ }
+// The slot of the place k after a start in a ring of line l.
+pub(crate) fn slot(l: usize, start: usize, k: usize) -> usize
+    requires { ⌜ l < 2 ⌝ }
+    ensures { λ r. ⌜ r < 1024 ⌝ }
 {
     if start < 512 {
         if k < 512 {
-            return (start + k) % 512;
+            return 512 * l + (start + k) % 512;
         }
     }
-    0
+    512 * l
 }
 
 fn few(senders: u32) -> u32
@@ -238,11 +262,10 @@ fn meter(out: Sink, i: usize, meter: AverageFlowMeter) -> Sink {
     double(put(d, b":"), meter.rtt_sum.0)
 }
 
-// The times of the parts 0 to 2n.
-fn queue(out: Sink, places: [Queued; 33], n: usize) -> Sink
-    requires { ⌜ n ≤ 16 ⌝ }
+// The times of the parts up to the last.
+fn queue(out: Sink, places: [Queued; 35], last: usize) -> Sink
+    requires { ⌜ last ≤ 34 ⌝ }
 {
-    let last = 2 * n;
     let mut o = out;
     let mut k: usize = 0;
     while k <= last {

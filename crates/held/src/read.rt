@@ -1,25 +1,28 @@
 // What the fields of a line give: a field that is not there reads as 0.
 ghost use Prim.Native.Nat.{_<_};
 use link::Limit;
+use link::LineValues;
 use quantities::OptionTime;
 use quantities::Time;
 use quantities::TimeSpan;
 use quantities::float::from_bits;
 use rand::ContinuousDistribution;
 use remy::RemyNetwork;
+use remy::ReturnLine;
 use script::absent;
 use script::number;
 use sender::Policy;
 
-// The network of the fields 0 to 30: delay, rate, loss, limit, the bits of 16 senders, how many there
-// are; on and off, each a kind and two doubles; the policy's kind, two numbers and the gap.
+// The network of the fields 0 to 35: the line's values, the bits of 16 senders, how many there are; on
+// and off, each a kind and two doubles; the policy's kind, two numbers and the gap; whether there is a
+// return line, and its values.
 pub(crate) fn network_at(text: &[u8], at: usize) -> RemyNetwork {
+    let line = line_at(text, at, 0);
+    let back = back_at(text, at);
     let bits = sizes_at(text, at);
     RemyNetwork {
-        delay: double(text, at, 0),
-        rate: double(text, at, 1),
-        loss: double(text, at, 2),
-        limit: limit_at(text, at),
+        line,
+        back,
         bits,
         senders: narrow(text, at, 20),
         on: distribution_at(text, at, 21),
@@ -38,11 +41,31 @@ fn sizes_at(text: &[u8], at: usize) -> [u64; 16] {
     bits
 }
 
-fn limit_at(text: &[u8], at: usize) -> Limit {
-    if absent(text, at, 3) {
+// The values of a line from field k on: delay, rate, loss, limit.
+fn line_at(text: &[u8], at: usize, k: usize) -> LineValues
+    requires { ⌜ k < 33 ⌝ }
+{
+    LineValues {
+        delay: double(text, at, k),
+        rate: double(text, at, k + 1),
+        loss: double(text, at, k + 2),
+        limit: limit_at(text, at, k + 3),
+    }
+}
+
+fn limit_at(text: &[u8], at: usize, k: usize) -> Limit {
+    if absent(text, at, k) {
         Limit::None
     } else {
-        Limit::Bits(number(text, at, 3))
+        Limit::Bits(number(text, at, k))
+    }
+}
+
+fn back_at(text: &[u8], at: usize) -> ReturnLine {
+    if number(text, at, 31) == 0 {
+        ReturnLine::None
+    } else {
+        ReturnLine::Line(line_at(text, at, 32))
     }
 }
 

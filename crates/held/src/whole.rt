@@ -1,7 +1,7 @@
-// A digest of every field of a simulation, with every slot of its rings and every sender, toggler,
-// meter and place of the queue, whether in use or not: of the text that they are printed as.
-use crate::print::fields;
+// A digest of every field of a simulation, with both lines, every slot of their rings and every sender,
+// toggler, meter and place of the queue, whether in use or not: of the text that they are printed as.
 use crate::print::pair;
+use crate::print::state;
 use crate::sink::Sink;
 use crate::sink::decimal;
 use crate::sink::double;
@@ -9,26 +9,66 @@ use crate::sink::folded;
 use crate::sink::hex;
 use crate::sink::put;
 use link::Limit;
+use link::Line;
+use link::LineValues;
 use link::Ring;
 use rand::ContinuousDistribution;
 use remy::RemyNetwork;
+use remy::ReturnLine;
 use remy::Simulation;
 use sender::Policy;
 
 pub(crate) fn digest(st: Simulation) -> u64 {
     let network = st.network;
-    let waiting = st.line.waiting;
-    let on_line = st.line.on_line;
-    let a = ring(ring(network_fields(folded(), network), waiting), on_line);
-    let end = fields(a, st, every_slot(), every_slot(), 16);
+    let first = st.lines[0];
+    let second = st.lines[1];
+    let a = rings(rings(network_fields(folded(), network), first), second);
+    let end = state(a, in_use(st));
     end.digest
 }
 
-fn every_slot() -> Ring {
-    Ring {
+// The simulation as if it had a return line, 16 senders and a packet in every slot.
+fn in_use(st: Simulation) -> Simulation {
+    let mut out = st;
+    let network = all_in_use(out.network);
+    out.network = network;
+    let first = every_slot(out.lines[0]);
+    out.lines[0] = first;
+    let second = every_slot(out.lines[1]);
+    out.lines[1] = second;
+    out
+}
+
+fn all_in_use(n: RemyNetwork) -> RemyNetwork {
+    let line = n.line;
+    let bits = n.bits;
+    let on = n.on;
+    let off = n.off;
+    let policy = n.policy;
+    RemyNetwork {
+        line,
+        back: ReturnLine::Line(line),
+        bits,
+        senders: 16,
+        on,
+        off,
+        policy,
+    }
+}
+
+fn every_slot(line: Line) -> Line {
+    let every = Ring {
         start: 0,
         count: 512,
-    }
+    };
+    let mut out = line;
+    out.waiting = every;
+    out.on_line = every;
+    out
+}
+
+fn rings(out: Sink, line: Line) -> Sink {
+    ring(ring(out, line.waiting), line.on_line)
 }
 
 fn ring(out: Sink, ring: Ring) -> Sink {
@@ -36,14 +76,27 @@ fn ring(out: Sink, ring: Ring) -> Sink {
 }
 
 fn network_fields(out: Sink, n: RemyNetwork) -> Sink {
-    let a = double(double(double(out, n.delay), n.rate), n.loss);
-    let limit = n.limit;
+    let back = n.back;
     let bits = n.bits;
-    let b = decimal(sizes_fields(limit_field(a, limit), bits), n.senders as u64);
+    let a = back_fields(line_fields(out, n.line), back);
+    let b = decimal(sizes_fields(a, bits), n.senders as u64);
     let on = n.on;
     let off = n.off;
     let policy = n.policy;
     policy_fields(times_fields(times_fields(b, on), off), policy)
+}
+
+fn back_fields(out: Sink, back: ReturnLine) -> Sink {
+    match back {
+        ReturnLine::None => put(out, b"-"),
+        ReturnLine::Line(line) => line_fields(out, line),
+    }
+}
+
+fn line_fields(out: Sink, line: LineValues) -> Sink {
+    let limit = line.limit;
+    let a = double(double(double(out, line.delay), line.rate), line.loss);
+    limit_field(a, limit)
 }
 
 fn sizes_fields(out: Sink, bits: [u64; 16]) -> Sink {

@@ -36,6 +36,9 @@ fn letter(mark: Mark) -> u8
         Mark::Counted => b'C',
         Mark::Old => b'O',
         Mark::Ignored => b'I',
+        Mark::Passed => b'P',
+        Mark::FullBack => b'Q',
+        Mark::LostBack => b'N',
     }
 }
 

@@ -11,6 +11,7 @@ pub use link::Delivered;
 pub use link::Left;
 pub use link::Limit;
 pub use link::Line;
+pub use link::LineValues;
 pub use link::Transmitted;
 pub use link::next_tick;
 pub use link::receive;

@@ -20,6 +20,15 @@ pub enum Limit {
     Bits(u64),
 }
 
+// A line's own values: its delay in seconds, its rate in bits per second, its loss, and the most bits
+// that may wait.
+pub struct LineValues {
+    pub delay: f64,
+    pub rate: f64,
+    pub loss: f64,
+    pub limit: Limit,
+}
+
 // What a link holds beside its packets: when the next packet may start, the waiting bits, the rings
 // of the packets that wait and of those on the line, and its generator.
 pub struct Line {

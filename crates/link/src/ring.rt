@@ -2,8 +2,9 @@ ghost use mathlib.Core.Path.{_≡_};
 ghost use Prim.Native.Nat.{_<_};
 ghost use Rattle.link.specs.Ring.{placeAfter, pushed, popped};
 
-// The start and the count of a ring of 512 places. Its slots lie in an array of the owner's: the
-// item that is pushed goes to the place that `end` gives, and the first item lies at `start`.
+// The start and the count of a ring of 512 places. Its slots lie in an array of the owner's, from
+// 512 l on for ring l: the item that is pushed goes to the place that `end` gives, and the first item
+// lies at `start`.
 pub struct Ring {
     pub start: usize,
     pub count: usize,

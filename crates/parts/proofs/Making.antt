@@ -17,31 +17,31 @@ use Rattle.remy.specs.Build.{Parts, newSender, noParts, populate}
 use Rattle.parts.specs.declared.Made.{Made}
 use Rattle.parts.specs.Parts.{toldParts, partsOf}
 
-module _ (n i : ℕ) (root : Rng) (off : ContinuousDistribution) (senders : List LossySender) (togglers : List Toggler) where
+module _ (n i : ℕ) (off : ContinuousDistribution) (root : Rng) (senders : List LossySender) (togglers : List Toggler) where
   -- nothing is left to make
-  pub all-made : n ≤ i → partsOf senders togglers ≡ populate (n - i) i root off (partsOf senders togglers)
+  pub all-made : n ≤ i → partsOf root senders togglers ≡ populate (n - i) i off (partsOf root senders togglers)
   unfolding populate
   all-made h = let e : n - i ≡ 0 = omega arith in rw e
 
   module _ (c d : Child) (t : Toggled) (x : LossySender) (h : i < n) (first : c ≡ childOf root) (second : d ≡ childOf (c .parent)) (third : t ≡ newToggler (d .child) off)
       (off-sender : x ≡ newSender (c .child)) where
     pub goes-on : t .number ≡ 0
-        → populate (n - (i + 1)) (i + 1) (d .parent) off (partsOf (set senders i x) (set togglers i (t .toggler))) ≡ populate (n - i) i root off (partsOf senders togglers)
+        → populate (n - (i + 1)) (i + 1) off (partsOf (d .parent) (set senders i x) (set togglers i (t .toggler))) ≡ populate (n - i) i off (partsOf root senders togglers)
     unfolding populate
     goes-on z = let e : n - i ≡ suc (n - (i + 1)) = omega arith in rw (e, off-sender, ← first, ← second, ← third, z)
 
     pub stops : (t .number ≡ 0 → ⊥)
-        → record { number = t .number; senders = set senders i x; togglers = set togglers i (t .toggler) } ≡ populate (n - i) i root off (partsOf senders togglers)
+        → record { number = t .number; root = d .parent; senders = set senders i x; togglers = set togglers i (t .toggler) } ≡ populate (n - i) i off (partsOf root senders togglers)
     unfolding populate
     stops z = let e : n - i ≡ suc (n - (i + 1)) = omega arith in rw (e, off-sender, ← first, ← second, ← third, ne-eqb _ _ z)
 
 -- the places before any part is made
-module _ (m : Made) (e : toldParts m ≡ noParts) where
-  pub none-senders : m .senders ≡ noParts .senders
+module _ (m : Made) (root : Rng) (e : toldParts m ≡ noParts root) where
+  pub none-senders : m .senders ≡ noParts root .senders
   none-senders = ap (λ (p : Parts). p .senders) e
 
-  pub none-togglers : m .togglers ≡ noParts .togglers
+  pub none-togglers : m .togglers ≡ noParts root .togglers
   none-togglers = ap (λ (p : Parts). p .togglers) e
 
-  pub begins : (n : ℕ) (root : Rng) (off : ContinuousDistribution) → populate (n - 0) 0 root off (partsOf (m .senders) (m .togglers)) ≡ populate n 0 root off noParts
-  begins n root off = let whole : n - 0 ≡ n = omega arith in rw (whole, none-senders, none-togglers)
+  pub begins : (n : ℕ) (off : ContinuousDistribution) → populate (n - 0) 0 off (partsOf root (m .senders) (m .togglers)) ≡ populate n 0 off (noParts root)
+  begins n off = let whole : n - 0 ≡ n = omega arith in rw (whole, none-senders, none-togglers)

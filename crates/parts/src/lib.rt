@@ -1,13 +1,14 @@
-// What a build makes before it puts the state together: the line, the senders and togglers, what places
-// hold where nothing is; and what the empty simulation is made of.
+// What a build makes before it puts the state together: a line, the senders and togglers, the generator
+// of a return line, what places hold where nothing is; and what the empty simulation is made of.
 //
 // All functions here are helpers for the crate `builder`, and no entry points.
 ghost use mathlib.Core.Path.{_≡_};
 ghost use Prim.Native.Nat.{_≤_};
-ghost use Rattle.remy.specs.Build.{newLine, newSender, blankPacket, blankWaiting, blankTransit, blankToggler, blankWords, noParts, populate, emptyNetwork, emptyWords};
+ghost use Rattle.remy.specs.Build.{newLine, newSender, blankPacket, blankWaiting, blankTransit, blankToggler, blankWords, noParts, populate, backWords, emptyNetwork, emptyWords};
 ghost use Rattle.parts.specs.Parts.{toldParts};
 use link::Limit;
 use link::Line;
+use link::LineValues;
 use link::Packet;
 use link::Ring;
 use link::Transit;
@@ -18,16 +19,18 @@ use quantities::TimeSpan;
 use rand::ContinuousDistribution;
 use rand::Rng;
 use remy::RemyNetwork;
+use remy::ReturnLine;
 use sender::LossySender;
 use sender::Policy;
 use sender::SenderState;
 use toggler::Toggler;
 use toggler::create;
 
-// The senders and togglers of a build, and the number: 8 where a first toggle's draw was spent, with
-// those made so far.
+// The senders and togglers of a build, the root after them, and the number: 8 where a first toggle's
+// draw was spent, with those made so far.
 pub struct Made {
     pub number: u32,
+    pub root: Rng,
     pub senders: [LossySender; 16],
     pub togglers: [Toggler; 16],
 }
@@ -110,9 +113,9 @@ pub fn blank_toggler() -> Toggler
     }
 }
 
-// The places of 16 senders and togglers before any is made.
-pub fn no_parts() -> Made
-    ensures { λ r. ⌜ toldParts r ≡ noParts ⌝ }
+// The places of 16 senders and togglers before any is made of the root.
+pub fn no_parts(root: Rng) -> Made
+    ensures { λ r. ⌜ toldParts r ≡ noParts root ⌝ }
 {
     let sender = new_sender(blank_words());
     let toggler = blank_toggler();
@@ -120,6 +123,7 @@ pub fn no_parts() -> Made
     let togglers = [toggler; 16];
     Made {
         number: 0,
+        root,
         senders,
         togglers,
     }
@@ -131,9 +135,9 @@ pub fn no_parts() -> Made
 // A helper for `builder`, and no entry point: `build` has tested the senders' number.
 pub fn make(n: usize, root: Rng, off: ContinuousDistribution) -> Made
     requires { ⌜ n ≤ 16 ⌝ }
-    ensures { λ r. ⌜ toldParts r ≡ populate n 0 root off noParts ⌝ }
+    ensures { λ r. ⌜ toldParts r ≡ populate n 0 off (noParts root) ⌝ }
 {
-    let none = no_parts();
+    let none = no_parts(root);
     let mut senders = none.senders;
     let mut togglers = none.togglers;
     let mut at = root;
@@ -146,34 +150,55 @@ pub fn make(n: usize, root: Rng, off: ContinuousDistribution) -> Made
         let toggler = t.toggler;
         senders[i] = sender;
         togglers[i] = toggler;
+        at = d.parent;
         if t.number != 0 {
             return Made {
                 number: t.number,
+                root: at,
                 senders,
                 togglers,
             };
         }
-        at = d.parent;
         i += 1;
     }
     Made {
         number: 0,
+        root: at,
         senders,
         togglers,
     }
 }
 
-// Delay 0, rate 1, loss 0, no limit, packets of 1 bit, no senders, on and off always 1, windows held
-// at 1.
+// The generator of the second link: the next child of the root, which is its last, where there is a
+// return line.
+pub fn back_words(network: RemyNetwork, root: Rng) -> Rng
+    ensures { λ r. ⌜ r ≡ backWords network root ⌝ }
+{
+    let back = network.back;
+    match back {
+        ReturnLine::None => blank_words(),
+        ReturnLine::Line(_) => {
+            let c = root.create_child();
+            c.child
+        }
+    }
+}
+
+// Delay 0, rate 1, loss 0, no limit, no return line, packets of 1 bit, no senders, on and off always 1,
+// windows held at 1.
 pub fn empty_network() -> RemyNetwork
     ensures { λ r. ⌜ r ≡ emptyNetwork ⌝ }
 {
-    let bits = [1; 16];
-    RemyNetwork {
+    let line = LineValues {
         delay: 0.0,
         rate: 1.0,
         loss: 0.0,
         limit: Limit::None,
+    };
+    let bits = [1; 16];
+    RemyNetwork {
+        line,
+        back: ReturnLine::None,
         bits,
         senders: 0,
         on: ContinuousDistribution::Always(1.0),

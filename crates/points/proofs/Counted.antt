@@ -1,11 +1,10 @@
 -- The worked example's build is fresh, demand 3 holds of its seven ticks, and what it counts there is computed. Assumes nothing.
 use mathlib.Core.Path.{_≡_, refl}
-use mathlib.Core.List.{map}
 use Prim.Native.Nat.{_+_}
 use native.Mathlib.Omega.{arith}
-use Rattle.remy.specs.State.{senderAt, waitingPackets, onLinePackets}
-use Rattle.remy.specs.History.{ticks, Fresh, idOf, droppedFull, lost, counted, old, ignored}
-use Rattle.remy.specs.Account.{Account}
+use Rattle.remy.specs.State.{senderAt}
+use Rattle.remy.specs.History.{ticks, Fresh, droppedFull, lost, droppedBack, lostBack, counted, old, ignored}
+use Rattle.remy.specs.Account.{ifBack, waiting, onLine, Account}
 use Rattle.remy.proofs.Account.{demand3}
 use Rattle.remy.proofs.Opened.{ticking}
 use Rattle.points.specs.Points.{Hold}
@@ -21,12 +20,16 @@ worked-fresh = (1, refl)
 pub worked-account : Account worked recorded ended
 worked-account = demand3 worked begun worked-fresh (ticks 7)
 
--- its clause `books`: with the numbers below, 4 ≡ 1 + 1 + 1 + 0 + 1 + 0 + 0
+-- its clause `books`: with the numbers below, 4 ≡ 1 + 1 + 1 + 0 + 0 + 0 + 0 + 0 + 1 + 0 + 0
 pub worked-books : senderAt ended 0 .«packets_sent»
     ≡ many (droppedFull recorded)
-    + many (map idOf (waitingPackets ended))
-    + many (map idOf (onLinePackets ended))
+    + many (waiting ended 0)
+    + many (onLine ended 0)
     + many (lost recorded)
+    + many (ifBack worked (droppedBack recorded))
+    + many (ifBack worked (waiting ended 1))
+    + many (ifBack worked (onLine ended 1))
+    + many (ifBack worked (lostBack recorded))
     + many (counted recorded)
     + many (old recorded)
     + many (ignored recorded)

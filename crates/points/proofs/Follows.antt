@@ -13,7 +13,7 @@ use Rattle.remy.specs.declared.network.RemyNetwork.{RemyNetwork}
 use Rattle.remy.specs.declared.simulation.Simulation.{Simulation}
 use Rattle.remy.specs.declared.simulation.TickRecord.{TickRecord}
 use Rattle.remy.specs.Network.{between}
-use Rattle.remy.specs.State.{senderAt}
+use Rattle.remy.specs.State.{lineCount, senderAt}
 use Rattle.remy.specs.History.{PacketId}
 use Rattle.remy.specs.Account.{total, ofSender, isPacket, everywhere}
 use Rattle.remy.proofs.Account.{sends-split, everywhere-split, partition}
@@ -89,20 +89,21 @@ module _ (i : ℕ) where
 
 -- each sender's packets are as many as it sent
 module _ (n : RemyNetwork) (h : List TickRecord) (s : Simulation) (each : Says n h s once) (i : ℕ) (there : i < n .senders) where
-  all-there : total (ofSender i) (everywhere h s) ≡ senderAt s i .«packets_sent»
+  all-there : total (ofSender i) (everywhere n h s) ≡ senderAt s i .«packets_sent»
   all-there =
-      as-many i (senderAt s i .«packets_sent») (everywhere h s)
+      as-many i (senderAt s i .«packets_sent») (everywhere n h s)
       (λ m. each i m ∙ ap (λ (b : Bool). cond (b && between 1 (senderAt s i .«packets_sent») m) 1 0) (lt-ltb i (n .senders) there))
 
 pub books-follows : (n : RemyNetwork) (h : List TickRecord) (s : Simulation) → Says n h s once → Says n h s books
 books-follows n h s each i there =
     let all = all-there n h s each i there in
-    let split = everywhere-split (ofSender i) h s in
+    let split = everywhere-split (ofSender i) h n s in
     omega (arith, all, split)
 
-pub sent-follows : (n : RemyNetwork) (h : List TickRecord) (s : Simulation) → Says n h s once → Says n h s starts → Says n h s leaves → Says n h s sent
+pub sent-follows : (n : RemyNetwork) (h : List TickRecord) (s : Simulation) → Says n h s once → ((l : ℕ) → l < lineCount n → Says n h s (starts l))
+    → ((l : ℕ) → l < lineCount n → Says n h s (leaves l)) → Says n h s sent
 sent-follows n h s each admitted started i there =
     sym (all-there n h s each i there)
-    ∙ everywhere-split (ofSender i) h s
-    ∙ sym (partition (ofSender i) h s admitted started)
+    ∙ everywhere-split (ofSender i) h n s
+    ∙ sym (partition (ofSender i) h n s admitted started)
     ∙ sends-split (ofSender i) h

@@ -8,6 +8,7 @@ pub mod Counted
 pub mod Follows
 pub mod Once
 pub mod Refuted
+pub mod Returned
 pub mod Rare
 pub mod Clock
 pub mod Joins

@@ -16,6 +16,6 @@ rare-holds =
     and refl
     and refl and refl
     and refl
-    and refl and refl and refl and refl and refl and refl and refl and refl and refl
+    and refl and refl and refl and refl and refl and refl and refl and refl and refl and refl
     and empty-built and refl
     and tt

@@ -40,28 +40,28 @@ eleven-account =
     subst (λ (s : Simulation). Account twoSizes eleven s) eleven-done
     (subst (λ h. Account twoSizes h (after (ticks 11) mixed)) eleven-noted (demand3 twoSizes mixed mixed-fresh (ticks 11)))
 
-spacing-refutes : Refuted (spacing ∷ []) spacedByTheLater
+spacing-refutes : Refuted (spacing 0 ∷ []) spacedByTheLater
 unfolding doubles eleventh
 spacing-refutes =
-    (λ a. a .line .spacing .1 .0)
+    (λ a. a .line 0 (omega arith) .spacing .1 .0)
     and refl and either _ refl refl and either _ refl refl and once-in spacedByTheLater refl and either _ refl refl
     and refl and refl and refl and refl and refl and omega arith and tt
 
-bits-refutes : (Refuted (bits ∷ []) (countTimes 16)) × (Refuted (bits ∷ []) (countTimes 8))
+bits-refutes : (Refuted (bits 0 ∷ []) (countTimes 16)) × (Refuted (bits 0 ∷ []) (countTimes 8))
 unfolding doubles eleventh
 bits-refutes = (
-  (λ a. let e : 16 ≡ 12 = a .line .bits in omega (arith, e))
+  (λ a. let e : 16 ≡ 12 = a .line 0 (omega arith) .bits in omega (arith, e))
       and refl and either _ refl refl and either _ refl refl and once-in (countTimes 16) refl and either _ refl refl
       and refl and refl and refl and (tt, (tt, tt)) and refl and omega arith and tt,
-  (λ a. let e : 8 ≡ 12 = a .line .bits in omega (arith, e))
+  (λ a. let e : 8 ≡ 12 = a .line 0 (omega arith) .bits in omega (arith, e))
       and refl and either _ refl refl and either _ refl refl and once-in (countTimes 8) refl and either _ refl refl
       and refl and refl and refl and (tt, (tt, tt)) and refl and omega arith and tt,
 )
 
-carried-refutes : Refuted (carried ∷ []) carriesTheOthers
+carried-refutes : Refuted (carried 0 ∷ []) carriesTheOthers
 unfolding doubles eleventh
 carried-refutes =
-    (λ a. let e : 8 ≡ 4 = ap (λ l. getD l 0 0) (a .line .carried) in omega (arith, e))
+    (λ a. let e : 8 ≡ 4 = ap (λ l. getD l 0 0) (a .line 0 (omega arith) .carried) in omega (arith, e))
     and refl and either _ refl refl and either _ refl refl and once-in carriesTheOthers refl and either _ refl refl
     and refl and refl and refl and (tt, (tt, tt)) and refl and omega arith and tt
 

@@ -4,7 +4,7 @@ use mathlib.Core.Path.{_≡_}
 use mathlib.Core.Bool.{true, false}
 use mathlib.Core.List.{List, [], _∷_}
 use Prim.Native.Nat.{ℕ, zero, suc}
-use lib.IntN.{pos, negsuc}
+use lib.IntN.{negsuc}
 use lib.ListN.{set}
 use lib.Ieee.{Float, inf, fin, le}
 use Rattle.quantities.specs.declared.time.Time.{Time}
@@ -13,6 +13,7 @@ use Rattle.quantities.specs.Units.{timeOf, spanOf, spanAfter}
 use Rattle.quantities.specs.NewTime.{FineTime, Double}
 use Rattle.link.specs.declared.link.Limit.the-variants as Limit
 use Rattle.sender.specs.declared.lossy.Policy.the-variants.{Held, Timed}
+use Rattle.remy.specs.declared.network.ReturnLine.the-variants as Back
 use Rattle.remy.specs.declared.network.RemyNetwork.{RemyNetwork}
 use Rattle.remy.specs.declared.simulation.Mark.the-variants as Mark
 use Rattle.remy.specs.declared.simulation.Name.the-variants as Name
@@ -26,24 +27,24 @@ use Rattle.remy.specs.NewTimes.{newTimes}
 use Rattle.remy.specs.HeldTimes.{Holds}
 use Rattle.remy.specs.History.{ticks, after}
 use Rattle.steady.specs.Clock.{oldOrNew, Onward, Rising, NeverBack}
-use Rattle.points.specs.Ranges.{networkFrom, bitsAll, always}
+use Rattle.points.specs.Ranges.{valuesFrom, networkFrom, bitsAll, always}
 use Rattle.points.specs.Worked.{worked}
-use Rattle.points.specs.Unfit.{packetOf, transitOf, lineWith, withClock, withTimer, withToggle, busyTimed, waitingFor}
+use Rattle.points.specs.Unfit.{six, odd, packetOf, transitOf, thereAndBack, returning, lineWith, withFront, withClock, withTimer, withToggle, busyTimed, waitingFor}
 
 -- the new times of each of the first n ticks from a state
 unfoldable pub newTimesOf : ℕ → Simulation → List (List Time)
 newTimesOf zero s = []
 newTimesOf (suc n) s = newTimes s ∷ newTimesOf n (tickOf s .simulation)
 
--- an odd number, and as seconds
-abbrev pub odd : ℕ → Float
-odd n = fin false n (pos 0)
-
+-- an odd number of seconds
 abbrev pub seconds : ℕ → Time
 seconds n = timeOf (odd n)
 
 abbrev pub two : Time
 two = timeOf (power 1)
+
+abbrev pub four : Time
+four = timeOf (power 2)
 
 -- the toggle after the on time of 100
 abbrev pub toggle : List Time
@@ -61,10 +62,8 @@ finer = fin false 9007199254740993 (negsuc 52)
 abbrev pub timedWorked : RemyNetwork
 timedWorked =
     record {
-      delay = worked .delay;
-      rate = worked .rate;
-      loss = worked .loss;
-      limit = Limit.None;
+      line = valuesFrom (worked .line .delay) (worked .line .rate) (worked .line .loss) Limit.None;
+      back = Back.None;
       bits = worked .bits;
       senders = worked .senders;
       on = worked .on;
@@ -100,6 +99,13 @@ itsTick = tickOf waitingTimed .simulation
 abbrev pub OldOrNew : Simulation → Type 0
 OldOrNew = Holds (oldOrNew waitingTimed (newTimes waitingTimed))
 
+-- With a return line, clock 4: on the first line, which was free at 4, a packet starts, which is due at 5, as is the earliest start; on the second the earliest start and a due time are 6.
+unfoldable pub itsReturn : Simulation
+itsReturn = tickOf returning .simulation
+
+abbrev pub OldOrNewBack : Simulation → Type 0
+OldOrNewBack = Holds (oldOrNew returning (newTimes returning))
+
 abbrev pub clock : List (Type 0)
 clock =
     -- the ends of both ranges
@@ -113,6 +119,9 @@ clock =
     ∷ (newTimesOf 7 (buildOf worked 1 .simulation) ≡ toggle ∷ [] ∷ start two ∷ [] ∷ [] ∷ start (seconds 3) ∷ [] ∷ [])
     -- timed: the same, and the timer of the first send, and that of the timer
     ∷ (newTimesOf 9 (buildOf timedWorked 1 .simulation) ≡ toggle ∷ (seconds 3 ∷ []) ∷ start two ∷ [] ∷ [] ∷ start (seconds 3) ∷ [] ∷ (seconds 5 ∷ []) ∷ [] ∷ [])
+    -- with a return line, 8 bits at a rate of 4 and a delay of 2: starts on the first line at 1, 2 and 3, on the second at 2 and 4
+    ∷ (newTimesOf 11 (buildOf thereAndBack 1 .simulation)
+    ≡ toggle ∷ [] ∷ start two ∷ [] ∷ [] ∷ start (seconds 3) ∷ start four ∷ start four ∷ [] ∷ start (timeOf six) ∷ [] ∷ [])
     -- infinite; below the clock
     ∷ (FineTime (timeOf zeroF) (timeOf (inf false)) → ⊥)
     ∷ (FineTime two (timeOf (power 0)) → ⊥)
@@ -121,10 +130,13 @@ clock =
     ∷ (TickNumber 7 → ⊥)
     ∷ (TickNumber 14 → ⊥)
     -- a time of 7 is neither old nor new: as the earliest start, a due time, a timer, a toggle
-    ∷ (OldOrNew (lineWith itsTick (odd 7) 0 3 0 2 1) → ⊥)
+    ∷ (OldOrNew (lineWith itsTick 0 (odd 7) 0 3 0 2 1) → ⊥)
     ∷ (OldOrNew (withOnLine itsTick (set (itsTick .«on_line») 2 (transitOf (packetOf 0 4 (power 1)) (odd 7)))) → ⊥)
     ∷ (OldOrNew (withTimer itsTick (odd 7)) → ⊥)
     ∷ (OldOrNew (withToggle itsTick true (odd 7)) → ⊥)
+    -- so on a return line, where what the first line held is not old
+    ∷ (OldOrNewBack (lineWith itsReturn 1 (power 2) 8 2 1 1 1) → ⊥)
+    ∷ (OldOrNewBack (withFront itsReturn 1 (transitOf (packetOf 0 2 (power 0)) (odd 7))) → ⊥)
     -- one tick: of the clock that is no double by the new times, and by the clock after it; of the array without places by what is held after it
     ∷ (Onward untimely → ⊥)
     ∷ (Onward untimely → ⊥)

@@ -17,6 +17,6 @@ joins =
     -- a caller has it after any number of ticks of any state
     ∷ ((m n : ℕ) (s : Simulation) (r : Ran) → JoinsOn n (runOf m s .simulation) r → Joined m n s r)
     -- where n is 0: a run of an unfit state, which has 9 bits tallied where 8 wait, and 0 ticks more
-    ∷ (runOf 1 (withWaitingBits busy 9) .number ≡ 9)
-    ∷ (runOf 0 (runOf 1 (withWaitingBits busy 9) .simulation) .number ≡ 0)
+    ∷ (runOf 1 (withWaitingBits busy 0 9) .number ≡ 9)
+    ∷ (runOf 0 (runOf 1 (withWaitingBits busy 0 9) .simulation) .number ≡ 0)
     ∷ []

@@ -6,6 +6,7 @@ pub mod Worked
 pub mod Unfit
 pub mod Counted
 pub mod Refuted
+pub mod Returned
 pub mod Rare
 pub mod Clock
 pub mod Joins

@@ -1,4 +1,4 @@
--- Document 01, "Stops", rows 1 to 7: both ends of each range and what lies next outside, as one list of claims. Each network differs from a good one in one field.
+-- Document 01, "Stops", rows 1 to 7, and document 02, K4, 20: both ends of each range and what lies next outside, as one list of claims. Each network differs from a good one in one field.
 use mathlib.Core.Path.{_≡_}
 use mathlib.Core.Bool.{true, false}
 use mathlib.Core.List.{List, [], _∷_}
@@ -11,16 +11,28 @@ use Rattle.rand.specs.declared.distribution.ContinuousDistribution.{ContinuousD
 use Rattle.rand.specs.declared.distribution.ContinuousDistribution.the-variants.{Always, Uniform}
 use Rattle.link.specs.declared.link.Limit.{Limit}
 use Rattle.link.specs.declared.link.Limit.the-variants as Limit
+use Rattle.link.specs.declared.link.LineValues.{LineValues}
 use Rattle.sender.specs.declared.lossy.Policy.{Policy}
 use Rattle.sender.specs.declared.lossy.Policy.the-variants.{Held, Grown, Timed}
+use Rattle.remy.specs.declared.network.ReturnLine.the-variants as Back
 use Rattle.remy.specs.declared.network.RemyNetwork.{RemyNetwork}
 use Rattle.remy.specs.Network.{networkStop}
+use Rattle.remy.specs.Build.{notBuilt, buildOf}
 
 -- ---- the good network, and one field of it anew
 
+abbrev pub valuesFrom : Float → Float → Float → Limit → LineValues
+valuesFrom delay rate loss limit = record { delay = delay; rate = rate; loss = loss; limit = limit }
+
+-- without a return line
 abbrev pub networkFrom : Float → Float → Float → Limit → List ℕ → ℕ → ContinuousDistribution → ContinuousDistribution → Policy → RemyNetwork
 networkFrom delay rate loss limit bits senders on off policy =
-    record { delay = delay; rate = rate; loss = loss; limit = limit; bits = bits; senders = senders; on = on; off = off; policy = policy }
+    record { line = valuesFrom delay rate loss limit; back = Back.None; bits = bits; senders = senders; on = on; off = off; policy = policy }
+
+-- a network with a return line of these values
+abbrev pub returned : RemyNetwork → LineValues → RemyNetwork
+returned n v =
+    record { line = n .line; back = Back.Line v; bits = n .bits; senders = n .senders; on = n .on; off = n .off; policy = n .policy }
 
 -- so many bits for every sender
 abbrev pub bitsAll : ℕ → List ℕ
@@ -62,6 +74,26 @@ withOff x = networkFrom (power 0) (power 3) zeroF Limit.None (bitsAll 8) 1 alway
 
 abbrev pub withPolicy : Policy → RemyNetwork
 withPolicy x = networkFrom (power 0) (power 3) zeroF Limit.None (bitsAll 8) 1 always always x
+
+-- with a return line of these values
+abbrev pub withBack : LineValues → RemyNetwork
+withBack x = returned good x
+
+abbrev pub withBackDelay : Float → RemyNetwork
+withBackDelay x = withBack (valuesFrom x (power 3) zeroF Limit.None)
+
+abbrev pub withBackRate : Float → RemyNetwork
+withBackRate x = withBack (valuesFrom (power 0) x zeroF Limit.None)
+
+abbrev pub withBackLoss : Float → RemyNetwork
+withBackLoss x = withBack (valuesFrom (power 0) (power 3) x Limit.None)
+
+abbrev pub withBackLimit : Limit → RemyNetwork
+withBackLimit x = withBack (valuesFrom (power 0) (power 3) zeroF x)
+
+-- values of which none is in its range
+abbrev pub unruly : LineValues
+unruly = valuesFrom nan nan nan (Limit.Bits 1125899906842625)
 
 -- the numbers of a network with this on time, and of one with this off time
 abbrev pub stopsWith : ContinuousDistribution → List ℕ
@@ -208,4 +240,44 @@ ranges =
     ∷ (networkStop (networkFrom nan nan nan Limit.None (bitsAll 0) 17 always always (Held 0)) ≡ 1)
     ∷ (networkStop (networkFrom zeroF (power 0) zeroF Limit.None (bitsAll 0) 1 (Always nan) always (Held 0)) ≡ 5)
     ∷ (networkStop (networkFrom zeroF (power 0) zeroF Limit.None (bitsAll 0) 0 always (Always nan) (Held 0)) ≡ 6)
+    -- 20: a return line outside 1 to 4: its delay,
+    ∷ (networkStop (withBackDelay zeroF) ≡ 0)
+    ∷ (networkStop (withBackDelay minusZero) ≡ 0)
+    ∷ (networkStop (withBackDelay (power 20)) ≡ 0)
+    ∷ (networkStop (withBackDelay belowZero) ≡ 20)
+    ∷ (networkStop (withBackDelay aboveMost) ≡ 20)
+    ∷ (networkStop (withBackDelay nan) ≡ 20)
+    ∷ (networkStop (withBackDelay (inf false)) ≡ 20)
+    ∷ (networkStop (withBackDelay (inf true)) ≡ 20)
+    -- rate,
+    ∷ (networkStop (withBackRate (power 0)) ≡ 0)
+    ∷ (networkStop (withBackRate (power 50)) ≡ 0)
+    ∷ (networkStop (withBackRate belowOne) ≡ 20)
+    ∷ (networkStop (withBackRate aboveMostRate) ≡ 20)
+    ∷ (networkStop (withBackRate nan) ≡ 20)
+    ∷ (networkStop (withBackRate (inf false)) ≡ 20)
+    -- loss
+    ∷ (networkStop (withBackLoss zeroF) ≡ 0)
+    ∷ (networkStop (withBackLoss minusZero) ≡ 0)
+    ∷ (networkStop (withBackLoss (power 0)) ≡ 0)
+    ∷ (networkStop (withBackLoss belowZero) ≡ 20)
+    ∷ (networkStop (withBackLoss aboveOne) ≡ 20)
+    ∷ (networkStop (withBackLoss nan) ≡ 20)
+    -- or limit.
+    ∷ (networkStop (withBackLimit Limit.None) ≡ 0)
+    ∷ (networkStop (withBackLimit (Limit.Bits 0)) ≡ 0)
+    ∷ (networkStop (withBackLimit (Limit.Bits 1125899906842624)) ≡ 0)
+    ∷ (networkStop (withBackLimit (Limit.Bits 1125899906842625)) ≡ 20)
+    -- It is tested after 1 to 7, and where no sender is;
+    ∷ (networkStop (returned (withDelay nan) unruly) ≡ 1)
+    ∷ (networkStop (returned (withRate nan) unruly) ≡ 2)
+    ∷ (networkStop (returned (withLoss nan) unruly) ≡ 3)
+    ∷ (networkStop (returned (withLimit (Limit.Bits 1125899906842625)) unruly) ≡ 4)
+    ∷ (networkStop (returned (withBits 0) unruly) ≡ 5)
+    ∷ (networkStop (returned (withOff (Always nan)) unruly) ≡ 6)
+    ∷ (networkStop (returned (withPolicy (Held 0)) unruly) ≡ 7)
+    ∷ (networkStop (returned (withSenderCount 0) unruly) ≡ 20)
+    -- and before any draw: with seed 474 eight first off times in a row are 0.
+    ∷ (buildOf (returned (withOff (Uniform zeroF tiny)) (good .line)) 474 ≡ notBuilt 8)
+    ∷ (buildOf (returned (withOff (Uniform zeroF tiny)) unruly) 474 ≡ notBuilt 20)
     ∷ []

@@ -18,6 +18,7 @@ use Rattle.sender.specs.declared.lossy.LossySender.{LossySender}
 use Rattle.sender.specs.declared.lossy.Returned.{Returned}
 use Rattle.sender.specs.declared.lossy.Heard.the-variants.{Counted}
 use Rattle.sender.specs.Sender.{tickTimer, tickSend, returnedOf}
+use Rattle.remy.specs.declared.network.ReturnLine.the-variants as Back
 use Rattle.remy.specs.Build.{emptyNetwork, emptySimulation, buildOf}
 use Rattle.points.specs.Points.{one}
 use Rattle.points.specs.Ranges.{double}
@@ -72,11 +73,12 @@ rare =
     ∷ (comesBack (timed 2) 8 ≡ counts 8 2)
     -- Greatest ack = max: a sequence below it leaves it.
     ∷ (comesBack (Grown 1 64) 6 ≡ counts 7 6)
-    -- The empty simulation: delay 0, rate 1, loss 0, no limit, 1 bit, no senders, on and off always 1, held 1,
-    ∷ (emptyNetwork .delay ≡ double 0x0000000000000000)
-    ∷ (emptyNetwork .rate ≡ double 0x3ff0000000000000)
-    ∷ (emptyNetwork .loss ≡ double 0x0000000000000000)
-    ∷ (emptyNetwork .limit ≡ Limit.None)
+    -- The empty simulation: delay 0, rate 1, loss 0, no limit, no return line, 1 bit, no senders, on and off always 1, held 1,
+    ∷ (emptyNetwork .line .delay ≡ double 0x0000000000000000)
+    ∷ (emptyNetwork .line .rate ≡ double 0x3ff0000000000000)
+    ∷ (emptyNetwork .line .loss ≡ double 0x0000000000000000)
+    ∷ (emptyNetwork .line .limit ≡ Limit.None)
+    ∷ (emptyNetwork .back ≡ Back.None)
     ∷ (emptyNetwork .bits ≡ replicate 16 1)
     ∷ (emptyNetwork .senders ≡ 0)
     ∷ (emptyNetwork .on ≡ Always (double 0x3ff0000000000000))

@@ -3,20 +3,21 @@
 use mathlib.Core.Path.{_≡_}
 use mathlib.Core.Bool.{Bool, true, false, _||_, _&&_, cond}
 use mathlib.Core.List.{List, [], _∷_, _++_, map}
-use Prim.Native.Nat.{ℕ, _+_, _<_}
+use Prim.Native.Nat.{ℕ, _+_, _*_, _<_}
 use lib.IntN.{pos, negsuc}
 use lib.ListN.{length, take, set, replicate}
 use lib.Dec.{ltb, eqb}
 use lib.Ieee.{Float, fin}
 use Rattle.quantities.specs.declared.time.OptionTime.the-variants.{None, Some}
 use Rattle.quantities.specs.Doubles.{zeroF, power}
-use Rattle.quantities.specs.Units.{spanOf, timeOf, amountOf, rateOf, amountOverRate, spanAfter}
+use Rattle.quantities.specs.Units.{spanOf, timeOf, amountOf, spanAfter}
 use Rattle.rand.specs.declared.distribution.ContinuousDistribution.the-variants.{Always}
 use Rattle.meters.specs.Meter.{newMeter}
 use Rattle.link.specs.declared.link.Limit.{Limit}
 use Rattle.link.specs.declared.link.Limit.the-variants as Limit
 use Rattle.sender.specs.declared.lossy.Policy.the-variants.{Held}
 use Rattle.toggler.specs.Queue.{noQueued}
+use Rattle.remy.specs.declared.network.ReturnLine.the-variants as Back
 use Rattle.remy.specs.declared.network.RemyNetwork.{RemyNetwork}
 use Rattle.remy.specs.declared.simulation.Mark.{Mark}
 use Rattle.remy.specs.declared.simulation.Mark.the-variants as Mark
@@ -26,12 +27,12 @@ use Rattle.remy.specs.declared.simulation.Next.the-variants as Next
 use Rattle.remy.specs.declared.simulation.Simulation.{Simulation}
 use Rattle.remy.specs.declared.simulation.TickRecord.{TickRecord}
 use Rattle.remy.specs.Network.{between}
-use Rattle.remy.specs.State.{senderAt, meterAt, waitingItems, waitingPackets, onLineItems, onLinePackets, senderBits, totalBits, withLine, withWaiting, withOnLine, withMeter}
-use Rattle.remy.specs.Build.{blankWaiting, blankTransit, buildOf}
+use Rattle.remy.specs.State.{hasBack, lineCount, valuesOf, lineAt, senderAt, meterAt, waitingItems, onLineItems, senderBits, totalBits, withLine, withWaiting, withOnLine, withMeter}
+use Rattle.remy.specs.Build.{newLine, blankWords, blankWaiting, blankTransit, buildOf}
 use Rattle.remy.specs.Tick.{tickOf}
-use Rattle.remy.specs.History.{Call, tick, ticks, after, history, Fresh, idOf, ids, times, admissions, droppedFull, lost, counted, old, ignored}
-use Rattle.remy.specs.History.{starts as startsIn, leaves as leavesIn}
-use Rattle.remy.specs.Account.{total, ofSender, isPacket, everywhere, Spaced, Limited, Account}
+use Rattle.remy.specs.History.{Call, tick, ticks, after, history, Fresh, idOf, ids, times, PacketId, admissions, droppedFull, lost, droppedBack, lostBack, counted, old, ignored}
+use Rattle.remy.specs.History.{starts as startsOn, leaves as leavesOf}
+use Rattle.remy.specs.Account.{total, ofSender, isPacket, ifBack, waiting, onLine, everywhere, pace, Spaced, Limited, Account}
 use Rattle.points.specs.Worked.{none}
 use Rattle.points.specs.Unfit.{three, toggleTime, packetOf, waitsOf, transitOf, linkSampled, onSince1, onUntil101, withNetwork}
 
@@ -44,33 +45,44 @@ pub record Case : Type 0 where
 
 pub data Clause : Type 0 where
   network sent books once meter : Clause
-  starts leaves arrival spacing bits carried limit : Clause
+  -- of line l
+  starts leaves arrival spacing bits carried limit : ℕ → Clause
 
-abbrev pub clauses : List Clause
-clauses = network ∷ sent ∷ books ∷ once ∷ meter ∷ starts ∷ leaves ∷ arrival ∷ spacing ∷ bits ∷ carried ∷ limit ∷ []
+abbrev pub lineClauses : ℕ → List Clause
+lineClauses l = starts l ∷ leaves l ∷ arrival l ∷ spacing l ∷ bits l ∷ carried l ∷ limit l ∷ []
+
+abbrev pub clausesOf : RemyNetwork → List Clause
+clausesOf n = network ∷ sent ∷ books ∷ once ∷ meter ∷ (lineClauses 0 ++ cond (hasBack (n .back)) (lineClauses 1) [])
+
+abbrev pub sizeOf : RemyNetwork → PacketId → ℕ
+sizeOf n x = senderBits n (x .sender) .0
 
 abbrev pub Says : RemyNetwork → List TickRecord → Simulation → Clause → Type 0
 Says n h s network = s .network ≡ n
-Says n h s sent = (i : ℕ) → i < n .senders → senderAt s i .«packets_sent» ≡ total (ofSender i) (ids (admissions h)) + total (ofSender i) (droppedFull h)
+Says n h s sent = (i : ℕ) → i < n .senders → senderAt s i .«packets_sent» ≡ total (ofSender i) (ids (admissions 0 h)) + total (ofSender i) (droppedFull h)
 Says n h s books =
     (i : ℕ) → i < n .senders
     → senderAt s i .«packets_sent»
     ≡ total (ofSender i) (droppedFull h)
-    + total (ofSender i) (map idOf (waitingPackets s))
-    + total (ofSender i) (map idOf (onLinePackets s))
+    + total (ofSender i) (waiting s 0)
+    + total (ofSender i) (onLine s 0)
     + total (ofSender i) (lost h)
+    + total (ofSender i) (ifBack n (droppedBack h))
+    + total (ofSender i) (ifBack n (waiting s 1))
+    + total (ofSender i) (ifBack n (onLine s 1))
+    + total (ofSender i) (ifBack n (lostBack h))
     + total (ofSender i) (counted h)
     + total (ofSender i) (old h)
     + total (ofSender i) (ignored h)
-Says n h s once = (i m : ℕ) → total (isPacket i m) (everywhere h s) ≡ cond (ltb i (n .senders) && between 1 (senderAt s i .«packets_sent») m) 1 0
+Says n h s once = (i m : ℕ) → total (isPacket i m) (everywhere n h s) ≡ cond (ltb i (n .senders) && between 1 (senderAt s i .«packets_sent») m) 1 0
 Says n h s meter = (i : ℕ) → i < n .senders → meterAt s i .records ≡ total (ofSender i) (counted h)
-Says n h s starts = ids (admissions h) ≡ ids (startsIn h) ++ map (λ x. idOf (x .packet)) (waitingItems s)
-Says n h s leaves = ids (startsIn h) ≡ ids (leavesIn h) ++ map (λ x. idOf (x .packet)) (onLineItems s)
-Says n h s arrival = times (leavesIn h) ≡ map (λ t. spanAfter t (spanOf (n .delay))) (take (length (leavesIn h)) (times (startsIn h)))
-Says n h s spacing = Spaced (λ x. amountOverRate (senderBits n (x .sender)) (rateOf (n .rate))) (startsIn h)
-Says n h s bits = s .line .«buffer_contains» .0 ≡ totalBits (waitingItems s)
-Says n h s carried = map (λ x. x .bits .0) (waitingItems s) ≡ map (λ x. senderBits n (x .packet .sender) .0) (waitingItems s)
-Says n h s limit = Limited (n .limit) (s .line .«buffer_contains» .0)
+Says n h s (starts l) = ids (admissions l h) ≡ ids (startsOn n l h) ++ map (λ x. idOf (x .packet)) (waitingItems s l)
+Says n h s (leaves l) = ids (startsOn n l h) ≡ ids (leavesOf n l h) ++ map (λ x. idOf (x .packet)) (onLineItems s l)
+Says n h s (arrival l) = times (leavesOf n l h) ≡ map (λ t. spanAfter t (spanOf (valuesOf n l .delay))) (take (length (leavesOf n l h)) (times (startsOn n l h)))
+Says n h s (spacing l) = Spaced (pace (valuesOf n l) (sizeOf n)) (startsOn n l h)
+Says n h s (bits l) = lineAt s l .«buffer_contains» .0 ≡ totalBits (waitingItems s l)
+Says n h s (carried l) = map (λ x. x .bits .0) (waitingItems s l) ≡ map (λ x. sizeOf n (idOf (x .packet))) (waitingItems s l)
+Says n h s (limit l) = Limited (valuesOf n l .limit) (lineAt s l .«buffer_contains» .0)
 
 -- clauses by their places, and whether one is in a list
 abbrev pub placeOf : Clause → ℕ
@@ -79,13 +91,13 @@ placeOf sent = 1
 placeOf books = 2
 placeOf once = 3
 placeOf meter = 4
-placeOf starts = 5
-placeOf leaves = 6
-placeOf arrival = 7
-placeOf spacing = 8
-placeOf bits = 9
-placeOf carried = 10
-placeOf limit = 11
+placeOf (starts l) = 5 + 7 * l
+placeOf (leaves l) = 6 + 7 * l
+placeOf (arrival l) = 7 + 7 * l
+placeOf (spacing l) = 8 + 7 * l
+placeOf (bits l) = 9 + 7 * l
+placeOf (carried l) = 10 + 7 * l
+placeOf (limit l) = 11 + 7 * l
 
 abbrev pub isIn : List Clause → Clause → Bool
 isIn [] c = false
@@ -97,7 +109,7 @@ OthersOf but k [] = Unit {0}
 OthersOf but k (c ∷ cs) = cond (isIn but c) (OthersOf but k cs) (Says (k .network) (k .past) (k .last) c × OthersOf but k cs)
 
 abbrev pub Others : List Clause → Case → Type 0
-Others but k = OthersOf but k clauses
+Others but k = OthersOf but k (clausesOf (k .network))
 
 abbrev pub Accounted : Case → Type 0
 Accounted k = Account (k .network) (k .past) (k .last)
@@ -112,10 +124,8 @@ Refuted by k = (Accounted k → ⊥) × Others by k
 abbrev pub networkWith : Float → Limit → RemyNetwork
 networkWith loss most =
     record {
-      delay = power 1;
-      rate = power 3;
-      loss = loss;
-      limit = most;
+      line = record { delay = power 1; rate = power 3; loss = loss; limit = most };
+      back = Back.None;
       bits = replicate 16 8;
       senders = 1;
       on = Always (fin false 25 (pos 2));
@@ -158,26 +168,28 @@ tenth =
     record {
       network = plan;
       head = record { clock = timeOf three; next = Next.Part 1 };
-      line =
+      lines =
           record {
             «earliest_transmit» = timeOf (power 2);
             «buffer_contains» = amountOf 16;
             waiting = record { start = 3; count = 2 };
             «on_line» = record { start = 1; count = 2 };
             rng = linkSampled;
-          };
+          }
+          ∷ newLine blankWords
+          ∷ [];
       waiting =
           waitsOf (packetOf 0 1 (power 0))
           ∷ waitsOf (packetOf 0 2 (power 0))
           ∷ waitsOf (packetOf 0 3 (power 0))
           ∷ waitsOf (packetOf 0 4 (power 0))
           ∷ waitsOf (packetOf 0 5 (power 0))
-          ∷ replicate 507 blankWaiting;
+          ∷ replicate 1019 blankWaiting;
       «on_line» =
           transitOf (packetOf 0 1 (power 0)) three
           ∷ transitOf (packetOf 0 2 (power 0)) (power 2)
           ∷ transitOf (packetOf 0 3 (power 0)) (fin false 5 (pos 0))
-          ∷ replicate 509 blankTransit;
+          ∷ replicate 1021 blankTransit;
       senders = onSince1 6 6;
       togglers = onUntil101;
       meters =
@@ -187,7 +199,7 @@ tenth =
           record { time = Some (timeOf (power 2)) }
           ∷ noQueued
           ∷ record { time = Some (timeOf toggleTime) }
-          ∷ replicate 30 noQueued;
+          ∷ replicate 32 noQueued;
     }
 
 -- ---- one thing changed
@@ -198,13 +210,13 @@ caseOf h s = record { network = plan; past = h; last = s }
 -- a line with these waiting bits, and so many packets that wait
 abbrev pub waitingWith : ℕ → ℕ → Simulation
 waitingWith contains count =
-    withLine tenth
+    withLine tenth 0
     (record {
-      «earliest_transmit» = tenth .line .«earliest_transmit»;
+      «earliest_transmit» = lineAt tenth 0 .«earliest_transmit»;
       «buffer_contains» = amountOf contains;
       waiting = record { start = 3; count = count };
-      «on_line» = tenth .line .«on_line»;
-      rng = tenth .line .rng;
+      «on_line» = lineAt tenth 0 .«on_line»;
+      rng = lineAt tenth 0 .rng;
     })
 
 -- packets d and e wait; b and c are on the line
@@ -318,13 +330,13 @@ refutations =
     -- One clause is broken and all others hold.
     ∷ Refuted (network ∷ []) anotherNetwork
     ∷ Refuted (meter ∷ []) recordedTwice
-    ∷ Refuted (starts ∷ []) passedOver
-    ∷ Refuted (leaves ∷ []) overtaken
-    ∷ Refuted (arrival ∷ []) late
-    ∷ Refuted (spacing ∷ []) tooClose
-    ∷ Refuted (bits ∷ []) talliedTwice
-    ∷ Refuted (limit ∷ []) overfull
-    -- So it is with `once`: a packet in each of the seven places and elsewhere, a packet in none, and one that was never sent.
+    ∷ Refuted (starts 0 ∷ []) passedOver
+    ∷ Refuted (leaves 0 ∷ []) overtaken
+    ∷ Refuted (arrival 0 ∷ []) late
+    ∷ Refuted (spacing 0 ∷ []) tooClose
+    ∷ Refuted (bits 0 ∷ []) talliedTwice
+    ∷ Refuted (limit 0 ∷ []) overfull
+    -- So it is with `once`: a packet in each of the seven places and elsewhere, a packet in none, and one that was never sent. The four places of a return line are in Returned.
     ∷ Refuted (once ∷ []) fullAndWaiting
     ∷ Refuted (once ∷ []) waitingAndOnLine
     ∷ Refuted (once ∷ []) onLineAndFull
@@ -336,9 +348,10 @@ refutations =
     ∷ Refuted (once ∷ []) neverSent
     -- `books` follows from `once`, and `sent` from `once`, `starts` and `leaves`: where one of them is broken, so is another.
     ∷ ((n : RemyNetwork) (h : List TickRecord) (s : Simulation) → Says n h s once → Says n h s books)
-    ∷ ((n : RemyNetwork) (h : List TickRecord) (s : Simulation) → Says n h s once → Says n h s starts → Says n h s leaves → Says n h s sent)
-    ∷ Refuted (books ∷ once ∷ starts ∷ []) mislaid
-    ∷ Refuted (sent ∷ starts ∷ []) unrecorded
+    ∷ ((n : RemyNetwork) (h : List TickRecord) (s : Simulation) → Says n h s once
+    → ((l : ℕ) → l < lineCount n → Says n h s (starts l)) → ((l : ℕ) → l < lineCount n → Says n h s (leaves l)) → Says n h s sent)
+    ∷ Refuted (books ∷ once ∷ starts 0 ∷ []) mislaid
+    ∷ Refuted (sent ∷ starts 0 ∷ []) unrecorded
     -- Fresh is the state that an unrefused build returned: every one, of every network and at every seed.
     ∷ ((n : RemyNetwork) (seed : ℕ) → buildOf n seed .number ≡ 0 → Fresh n (buildOf n seed .simulation))
     -- The history is the records of ticks that moved since the build: each of them, in order, and no others.

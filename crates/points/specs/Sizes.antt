@@ -23,20 +23,21 @@ use Rattle.sender.specs.declared.lossy.SenderState.the-variants as State
 use Rattle.sender.specs.declared.lossy.LossySender.{LossySender}
 use Rattle.toggler.specs.declared.toggler.Toggler.{Toggler}
 use Rattle.toggler.specs.Queue.{noQueued}
+use Rattle.remy.specs.declared.network.ReturnLine.the-variants as Back
 use Rattle.remy.specs.declared.network.RemyNetwork.{RemyNetwork}
 use Rattle.remy.specs.declared.simulation.Mark.the-variants as Mark
 use Rattle.remy.specs.declared.simulation.Next.the-variants as Next
 use Rattle.remy.specs.declared.simulation.Simulation.{Simulation}
 use Rattle.remy.specs.declared.simulation.TickRecord.{TickRecord}
 use Rattle.remy.specs.Network.{networkStop}
-use Rattle.remy.specs.State.{waitingItems, withLine, withWaiting, withMeter}
-use Rattle.remy.specs.Build.{newSender, blankWords, blankWaiting, blankTransit, blankToggler, buildOf}
+use Rattle.remy.specs.State.{lineAt, waitingItems, withWaiting, withMeter}
+use Rattle.remy.specs.Build.{newLine, newSender, blankWords, blankWaiting, blankTransit, blankToggler, buildOf}
 use Rattle.remy.specs.Fit.{fit}
 use Rattle.remy.specs.History.{ticks, after, history, Fresh}
 use Rattle.remy.specs.Account.{Account}
-use Rattle.points.specs.Ranges.{networkFrom}
+use Rattle.points.specs.Ranges.{valuesFrom}
 use Rattle.points.specs.Worked.{Told, toldOf, toldLine, packet, none}
-use Rattle.points.specs.Unfit.{three, toggleTime, packetOf, transitOf, ownWords, toggleWords, withNetwork, waitingBits, meterBits, Unfit, Fit, carried as carriedTest}
+use Rattle.points.specs.Unfit.{three, toggleTime, packetOf, transitOf, ownWords, toggleWords, lineOf, withNetwork, lineWith, freeAt, waitingBits, meterBits, Unfit, Fit, carried as carriedTest}
 use Rattle.points.specs.Refuted.{Case, spacing, bits, carried, Refuted, noteAt}
 
 -- ---- the worked example with two sizes
@@ -45,10 +46,8 @@ use Rattle.points.specs.Refuted.{Case, spacing, bits, carried, Refuted, 
 abbrev pub twoSizes : RemyNetwork
 twoSizes =
     record {
-      delay = power 0;
-      rate = power 3;
-      loss = zeroF;
-      limit = Limit.Bits 16;
+      line = valuesFrom (power 0) (power 3) zeroF (Limit.Bits 16);
+      back = Back.None;
       bits = 8 ∷ 4 ∷ replicate 14 0;
       senders = 2;
       on = Always (fin false 25 (pos 2));
@@ -104,26 +103,22 @@ eleventh =
     record {
       network = twoSizes;
       head = record { clock = timeOf (fin false 7 (negsuc 0)); next = Next.Part 0 };
-      line =
-          record {
-            «earliest_transmit» = timeOf (fin false 7 (negsuc 0));
-            «buffer_contains» = amountOf 12;
-            waiting = record { start = 3; count = 2 };
-            «on_line» = record { start = 2; count = 1 };
-            rng = fromWords 17320858190345277832 17485486823304369229 4880033550728840059 7829798214420298896;
-          };
+      lines =
+          lineOf (fin false 7 (negsuc 0)) 12 3 2 2 1 (fromWords 17320858190345277832 17485486823304369229 4880033550728840059 7829798214420298896)
+          ∷ newLine blankWords
+          ∷ [];
       waiting =
           waitsWith 0 1 (power 0) 8
           ∷ waitsWith 0 2 (power 0) 8
           ∷ waitsWith 1 1 (power 0) 4
           ∷ waitsWith 1 2 (power 0) 4
           ∷ waitsWith 0 3 (power 1) 8
-          ∷ replicate 507 blankWaiting;
+          ∷ replicate 1019 blankWaiting;
       «on_line» =
           transitOf (packetOf 0 1 (power 0)) (power 1)
           ∷ transitOf (packetOf 0 2 (power 0)) three
           ∷ transitOf (packetOf 1 1 (power 0)) (power 2)
-          ∷ replicate 509 blankTransit;
+          ∷ replicate 1021 blankTransit;
       senders =
           onWith 4 2 ownWords
           ∷ onWith 2 0 (fromWords 1336129645694042326 7278725533440954441 1650926874576718010 2884092293074692283)
@@ -139,21 +134,13 @@ eleventh =
           ∷ record { time = Some (timeOf toggleTime) }
           ∷ noQueued
           ∷ record { time = Some (timeOf toggleTime) }
-          ∷ replicate 28 noQueued;
+          ∷ replicate 30 noQueued;
     }
 
 -- ---- one thing changed
 
 abbrev pub talliedAs : Simulation → ℕ → Simulation
-talliedAs s x =
-    withLine s
-    (record {
-      «earliest_transmit» = s .line .«earliest_transmit»;
-      «buffer_contains» = amountOf x;
-      waiting = s .line .waiting;
-      «on_line» = s .line .«on_line»;
-      rng = s .line .rng;
-    })
+talliedAs s x = lineWith s 0 (freeAt s 0) x 3 2 2 1
 
 -- 1:2, the first that waits, carries so many bits
 abbrev pub carriesBits : Simulation → ℕ → Simulation
@@ -200,7 +187,7 @@ twelve =
 -- ---- bits that nobody reads
 
 abbrev pub withBitsOf : RemyNetwork → List ℕ → RemyNetwork
-withBitsOf n x = networkFrom (n .delay) (n .rate) (n .loss) (n .limit) x (n .senders) (n .on) (n .off) (n .policy)
+withBitsOf n x = record { line = n .line; back = n .back; bits = x; senders = n .senders; on = n .on; off = n .off; policy = n .policy }
 
 -- the same bits for each of the network's senders, and any from there on
 abbrev pub SameBits : RemyNetwork → List ℕ → Type 0
@@ -214,21 +201,21 @@ sizes =
     -- Twelve ticks: starts are a second apart after a packet of 8 bits, and half a second after one of 4.
     ∷ (toldOf 12 mixed ≡ twelve)
     -- Where a packet of 8 bits is dropped full, one of 4 bits is admitted.
-    ∷ (receiveOf (Limit.Bits 16) (eleventh .line) (amountOf 8) .admitted ≡ false)
-    ∷ (receiveOf (Limit.Bits 16) (eleventh .line) (amountOf 4) .admitted ≡ true)
+    ∷ (receiveOf (Limit.Bits 16) (lineAt eleventh 0) (amountOf 8) .admitted ≡ false)
+    ∷ (receiveOf (Limit.Bits 16) (lineAt eleventh 0) (amountOf 4) .admitted ≡ true)
     -- The waiting bits are the sum of what the waiting packets carry, and each carries its sender's.
-    ∷ (map (λ x. x .bits .0) (waitingItems eleventh) ≡ 4 ∷ 8 ∷ [])
-    ∷ (eleventh .line .«buffer_contains» .0 ≡ 12)
+    ∷ (map (λ x. x .bits .0) (waitingItems eleventh 0) ≡ 4 ∷ 8 ∷ [])
+    ∷ (lineAt eleventh 0 .«buffer_contains» .0 ≡ 12)
     -- The build is fresh, so there is an account of its ticks.
     ∷ Fresh twoSizes mixed
     ∷ (history (ticks 11) mixed ≡ eleven)
     ∷ (after (ticks 11) mixed ≡ eleventh)
     ∷ Account twoSizes eleven eleventh
     -- Spacing by the later one's bits, waiting bits as count times one size, and another's bits carried: one clause is broken and all others hold.
-    ∷ Refuted (spacing ∷ []) spacedByTheLater
-    ∷ Refuted (bits ∷ []) (countTimes 16)
-    ∷ Refuted (bits ∷ []) (countTimes 8)
-    ∷ Refuted (carried ∷ []) carriesTheOthers
+    ∷ Refuted (spacing 0 ∷ []) spacedByTheLater
+    ∷ Refuted (bits 0 ∷ []) (countTimes 16)
+    ∷ Refuted (bits 0 ∷ []) (countTimes 8)
+    ∷ Refuted (carried 0 ∷ []) carriesTheOthers
     -- Such states are unfit, by one test each; and meter bits of another's size.
     ∷ Fit eleventh
     ∷ Unfit (waitingBits ∷ []) (talliedAs eleventh 16)

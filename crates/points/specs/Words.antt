@@ -9,7 +9,10 @@ use Rattle.rand.specs.declared.distribution.ContinuousDistribution.{ContinuousD
 use Rattle.rand.specs.Generator.{wordsOf, movedOn, fromSeed, allZero, fromWords, childOf}
 use Rattle.rand.specs.Draws.{positiveOf}
 use Rattle.points.specs.Points.{outputs}
-use Rattle.points.specs.Unfit.{wordsOnly}
+use Rattle.remy.specs.State.{lineAt, senderAt, togglerAt}
+use Rattle.remy.specs.Build.{buildOf}
+use Rattle.points.specs.Worked.{worked}
+use Rattle.points.specs.Unfit.{ownWords, toggleWords, busy, thereAndBack, returning, withLinkWords, wordsOnly, linkWords, Unfit, Fit}
 
 abbrev pub zeros : Rng
 zeros = wordsOnly 0 0 0 0
@@ -30,6 +33,15 @@ words =
     ∷ (outputs 4 zeros ≡ 0 ∷ 0 ∷ 0 ∷ 0 ∷ [])
     ∷ (movedOn zeros ≡ zeros)
     ∷ (childOf zeros .child ≡ fromSeed 0)
+    -- The parts' generators at seed 1: with a return line the second link's is the root's last child, after those of the sender and the toggler. Four zero words there are unfit.
+    ∷ (lineAt (buildOf thereAndBack 1 .simulation) 0 .rng ≡ wordsOnly 14971601782005023387 13781649495232077965 1847458086238483744 13765271635752736470)
+    ∷ (senderAt (buildOf thereAndBack 1 .simulation) 0 .rng ≡ ownWords)
+    ∷ (togglerAt (buildOf thereAndBack 1 .simulation) 0 .rng ≡ toggleWords)
+    ∷ (lineAt (buildOf thereAndBack 1 .simulation) 1 .rng ≡ wordsOnly 1336129645694042326 7278725533440954441 1650926874576718010 2884092293074692283)
+    ∷ Unfit (linkWords ∷ []) (withLinkWords returning 1 zeros)
+    -- Without one none is drawn: seed 0's words are held there, and it may have four zero words.
+    ∷ (lineAt (buildOf worked 1 .simulation) 1 .rng ≡ fromSeed 0)
+    ∷ Fit (withLinkWords busy 1 zeros)
     -- No generator that is made has them, and no step or redraw leads to them.
     ∷ ((n : ℕ) → fromSeed n ≡ zeros → ⊥)
     ∷ ((a b c d : ℕ) → fromWords a b c d ≡ zeros → ⊥)

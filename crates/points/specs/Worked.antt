@@ -14,6 +14,7 @@ use Rattle.flows.specs.declared.flow.Rtt.the-variants.{Known}
 use Rattle.meters.specs.Meter.{readOf}
 use Rattle.link.specs.declared.link.Limit.the-variants as Limit
 use Rattle.sender.specs.declared.lossy.Policy.the-variants.{Held}
+use Rattle.remy.specs.declared.network.ReturnLine.the-variants as Back
 use Rattle.remy.specs.declared.network.RemyNetwork.{RemyNetwork}
 use Rattle.remy.specs.declared.simulation.Simulation.{Simulation}
 use Rattle.remy.specs.declared.simulation.Mark.{Mark}
@@ -69,10 +70,8 @@ none = Name.None
 abbrev pub worked : RemyNetwork
 worked =
     record {
-      delay = power 0;
-      rate = power 3;
-      loss = zeroF;
-      limit = Limit.Bits 8;
+      line = record { delay = power 0; rate = power 3; loss = zeroF; limit = Limit.Bits 8 };
+      back = Back.None;
       bits = replicate 16 8;
       senders = 1;
       on = Always (fin false 25 (pos 2));
@@ -114,10 +113,8 @@ example =
 abbrev pub nearby : RemyNetwork
 nearby =
     record {
-      delay = zeroF;
-      rate = power 3;
-      loss = zeroF;
-      limit = Limit.None;
+      line = record { delay = zeroF; rate = power 3; loss = zeroF; limit = Limit.None };
+      back = Back.None;
       bits = replicate 16 8;
       senders = 1;
       on = Always (power 0);

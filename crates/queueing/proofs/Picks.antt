@@ -10,7 +10,7 @@ use Rattle.quantities.specs.declared.time.OptionTime.{OptionTime}
 use Rattle.quantities.specs.declared.time.OptionTime.the-variants.{None, Some}
 use Rattle.toggler.specs.declared.tick_queue.Queued.{Queued}
 use Rattle.toggler.specs.declared.tick_queue.Picked.{Picked}
-use Rattle.toggler.specs.Queue.{noQueued, sooner, better, pickFrom, pickOf}
+use Rattle.toggler.specs.Queue.{queuePlaces, noQueued, sooner, better, pickFrom, pickOf}
 use Rattle.remy.specs.declared.simulation.Head.{Head}
 use Rattle.remy.specs.declared.simulation.Simulation.{Simulation}
 use Rattle.remy.specs.State.{withHead, withQueue}
@@ -26,9 +26,9 @@ from-below (q ∷ queue) i m best fit below = from-below queue (i + 1) m (better
     cases false = below
 
 -- the picked part, 0 where nothing is queued, is a place of the queue
-pub part-inside : (queue : List Queued) (p : Picked) → p ≡ pickOf queue → length queue ≡ 33 → p .part < 33
+pub part-inside : (queue : List Queued) (p : Picked) → p ≡ pickOf queue → length queue ≡ queuePlaces → p .part < queuePlaces
 unfolding pickOf
-part-inside queue p e full = rw e (from-below queue 0 33 (record { time = None; part = 0 }) (omega arith) (omega arith))
+part-inside queue p e full = rw e (from-below queue 0 queuePlaces (record { time = None; part = 0 }) (omega arith) (omega arith))
 
 -- the place of the picked part: emptied, or as it was
 pub removed-at : (queue : List Queued) (p : Picked) (t : OptionTime) → set queue (p .part) (placeAfterPick t (getD queue (p .part) noQueued)) ≡ removed queue p t

@@ -17,24 +17,26 @@ use Rattle.toggler.specs.Queue.{noQueued}
 use Rattle.remy.specs.declared.simulation.Next.{Next}
 use Rattle.remy.specs.declared.simulation.Next.the-variants as Next
 use Rattle.remy.specs.declared.simulation.Head.{Head}
-use Rattle.remy.specs.State.{Role, link, sender, toggler, nobody, roleOf}
+use Rattle.remy.specs.State.{Role, link, bouncer, sender, toggler, nobody, roleOf}
 use Rattle.queueing.specs.declared.Now.{Now}
 use Rattle.queueing.specs.declared.Now.the-variants as Now
 
 -- ---- whose turn it is
 
 abbrev pub nowRole : Role → Now
-nowRole link = Now.Link
+nowRole (link l) = Now.Link l
+nowRole bouncer = Now.Stop 9
 nowRole (sender i) = Now.Sender i
 nowRole (toggler i) = Now.Toggler i
 nowRole nobody = Now.Stop 9
 
-abbrev pub nowNext : Next → Time → ℕ → Now
-nowNext Next.None clock n = Now.Stop 0
-nowNext (Next.Part k) clock n = cond (lt (power 40) (clock .0 .0)) (Now.Stop 10) (nowRole (roleOf n k))
+-- among n senders, with a return line or without
+abbrev pub nowNext : Next → Time → ℕ → Bool → Now
+nowNext Next.None clock n back = Now.Stop 0
+nowNext (Next.Part k) clock n back = cond (lt (power 40) (clock .0 .0)) (Now.Stop 10) (nowRole (roleOf n back k))
 
-unfoldable pub nowOf : Bool → Head → ℕ → Now
-nowOf fit h n = cond fit (nowNext (h .next) (h .clock) n) (Now.Stop 9)
+unfoldable pub nowOf : Bool → Head → ℕ → Bool → Now
+nowOf fit h n back = cond fit (nowNext (h .next) (h .clock) n back) (Now.Stop 9)
 
 -- ---- places in the queue
 

@@ -3,31 +3,35 @@
 //
 // All functions here are helpers for the crates `advance` and `builder`, and no entry points.
 ghost use mathlib.Core.Path.{_≡_};
-ghost use Rattle.remy.specs.State.{roleOf};
-ghost use Rattle.remy.specs.Queue.{headOf};
+ghost use Prim.Native.Nat.{_≤_};
+ghost use Rattle.remy.specs.State.{hasBack, link, roleOf};
+ghost use Rattle.remy.specs.Queue.{partOf, headOf};
 ghost use Rattle.queueing.specs.Queueing.{nowRole, nowOf, linkSlot, senderSlot, togglerSlot, placeAfterPick};
 use link::Line;
 use link::Transit;
 use quantities::OptionTime;
 use quantities::Time;
+use ranges::lines::has_back;
 use remy::Head;
 use remy::Next;
+use remy::ReturnLine;
 use sender::LossySender;
 use toggler::Picked;
 use toggler::Queued;
 use toggler::Toggler;
 
-// Whose turn it is: a part's, or nobody's with the number of the stop (0 for idle).
+// Whose turn it is: a part's, the link's by its line, or nobody's with the number of the stop (0 for
+// idle).
 pub enum Now {
     Stop(u32),
-    Link,
+    Link(usize),
     Sender(usize),
     Toggler(usize),
 }
 
 // 9, idle and 10, and then the part by its number.
-pub fn whose_turn(fit: bool, head: Head, senders: u32) -> Now
-    ensures { λ r. ⌜ r ≡ nowOf fit head senders ⌝ }
+pub fn whose_turn(fit: bool, head: Head, senders: u32, back: ReturnLine) -> Now
+    ensures { λ r. ⌜ r ≡ nowOf fit head senders (hasBack back) ⌝ }
 {
     if !fit {
         return Now::Stop(9);
@@ -39,28 +43,51 @@ pub fn whose_turn(fit: bool, head: Head, senders: u32) -> Now
     if 1099511627776.0 < head.clock.0.0 {
         return Now::Stop(10);
     }
-    role(k, senders)
+    role(k, senders, has_back(back))
 }
 
-fn role(k: usize, senders: u32) -> Now
-    ensures { λ r. ⌜ r ≡ nowRole (roleOf senders k) ⌝ }
+// Whose turn it is where it is the turn of part k. It is never the bouncer's (9).
+pub fn role(k: usize, senders: u32, back: bool) -> Now
+    ensures { λ r. ⌜ r ≡ nowRole (roleOf senders back k) ⌝ }
 {
     if k == 0 {
-        return Now::Link;
+        return Now::Link(0);
     }
+    let n = senders as usize;
     let i = (k - 1) / 2;
-    if i < senders as usize {
+    if i < n {
         if k % 2 == 1 {
-            Now::Sender(i)
-        } else {
-            Now::Toggler(i)
+            return Now::Sender(i);
         }
-    } else {
-        Now::Stop(9)
+        return Now::Toggler(i);
     }
+    if !back {
+        return Now::Stop(9);
+    }
+    if i != n {
+        return Now::Stop(9);
+    }
+    if k % 2 == 1 {
+        return Now::Stop(9);
+    }
+    Now::Link(1)
 }
 
-// The link's place in the queue, and a sender's: anew where something changed, else as it was.
+// The part of the link of line l among so many senders, which is also its place in the queue.
+//
+// A helper for the crate `advance`, and no entry point: the senders' number has been tested there (9).
+pub fn link_part(l: usize, senders: u32) -> usize
+    requires { ⌜ senders ≤ 16 ⌝ }
+    ensures { λ r. ⌜ r ≡ partOf senders (link l) ⌝ }
+{
+    if l == 0 {
+        return 0;
+    }
+    2 + 2 * (senders as usize)
+}
+
+// What the place of a link in the queue holds, and of a sender: anew where something changed, else what
+// it held.
 pub fn link_slot(changed: bool, line: Line, clock: Time, front: Transit, old: Queued) -> Queued
     ensures { λ r. ⌜ r ≡ linkSlot changed line clock front old ⌝ }
 {

@@ -1,6 +1,8 @@
 ghost use mathlib.Core.Path.{_≡_};
+ghost use Prim.Native.Nat.{_≤_};
 ghost use Rattle.remy.specs.Fit.{held};
-ghost use Rattle.ranges.specs.Frame.{ringsTest, clockHeld, pastTest, frameTest};
+ghost use Rattle.ranges.specs.Frame.{ringsTest, lineTest, linesTest, clockHeld, pastTest, frameTest};
+use crate::lines::line_count;
 use crate::network_stop;
 use link::Line;
 use quantities::Time;
@@ -9,14 +11,11 @@ use remy::Head;
 use remy::Next;
 use remy::RemyNetwork;
 
-// Whether network, head and line are fit, without the packets.
-pub fn frame_fit(network: RemyNetwork, head: Head, line: Line) -> bool
-    ensures { λ r. ⌜ r ≡ frameTest network head line ⌝ }
+// Whether network, head and lines are fit, without the packets.
+pub fn frame_fit(network: RemyNetwork, head: Head, lines: [Line; 2]) -> bool
+    ensures { λ r. ⌜ r ≡ frameTest network head lines ⌝ }
 {
     if network_stop(network) != 0 {
-        return false;
-    }
-    if !rings_fit(line) {
         return false;
     }
     let clock = head.clock;
@@ -24,14 +23,45 @@ pub fn frame_fit(network: RemyNetwork, head: Head, line: Line) -> bool
         if !clock_held(head) {
             return false;
         }
-        let earliest = line.earliest_transmit;
-        if !time_held(earliest) {
-            return false;
-        }
-        let rng = line.rng;
-        return !rng.all_zero();
+        let back = network.back;
+        let count = line_count(back);
+        return lines_fit(lines, count);
     }
     false
+}
+
+// Whether each of the first so many lines is fit, without its packets.
+//
+// A helper, and no entry point: the caller shows that there are at most two.
+fn lines_fit(lines: [Line; 2], count: usize) -> bool
+    requires { ⌜ count ≤ 2 ⌝ }
+    ensures { λ r. ⌜ r ≡ linesTest lines count ⌝ }
+{
+    let mut l = 0;
+    while l < count {
+        let line = lines[l];
+        if !line_fit(line) {
+            return false;
+        }
+        l += 1;
+    }
+    true
+}
+
+// Whether a line's rings are in their ranges, its earliest start is at most 2^41, and its generator has
+// not four zero words.
+fn line_fit(line: Line) -> bool
+    ensures { λ r. ⌜ r ≡ lineTest line ⌝ }
+{
+    if !rings_fit(line) {
+        return false;
+    }
+    let earliest = line.earliest_transmit;
+    if !time_held(earliest) {
+        return false;
+    }
+    let rng = line.rng;
+    !rng.all_zero()
 }
 
 // Whether the counts of the rings are at most 512, and their starts below 512.

@@ -3,7 +3,7 @@ use mathlib.Core.Path.{_≡_, refl, sym, ap, subst, _∙_}
 use mathlib.Core.Logic.{_⊎_, inl, inr, ⊎-elim}
 use mathlib.Core.Bool.{Bool, true, false, _||_, cond, true≢false}
 use mathlib.Core.List.{List, [], _∷_, _++_, map, map-map, append-assoc, append-nil}
-use Prim.Native.Nat.{ℕ, _+_}
+use Prim.Native.Nat.{ℕ, _+_, _<_}
 use native.Mathlib.Omega.{arith}
 use borrow.Author.Tests.{eqb-true}
 use lib.Dec.{eqb}
@@ -16,18 +16,20 @@ use Rattle.remy.specs.declared.simulation.Simulation.{Simulation}
 use Rattle.remy.specs.declared.simulation.Mark.{Mark}
 use Rattle.remy.specs.declared.simulation.TickRecord.{TickRecord}
 use Rattle.remy.specs.declared.simulation.Ticked.{Ticked}
-use Rattle.remy.specs.State.{roleOf, waitingItems, waitingPackets, onLineItems, onLinePackets}
+use Rattle.remy.specs.State.{hasBack, lineCount, roleIn, waitingItems, onLineItems}
 use Rattle.remy.specs.Fit.{fit}
 use Rattle.remy.specs.Tick.{Outcome, moves, stops, outcomeOf, unmoved, ticked, tickNext, tickOf}
 use Rattle.remy.specs.HeldTimes.{Has}
-use Rattle.remy.specs.History.{Call, tick, called, after, noted, history, Fresh, PacketId, idOf, ids, entries, letterOf, isS, isF, isL, isC, isO, isI, sends, admissions, starts, leaves, droppedFull, lost, counted, old, ignored}
-use Rattle.remy.specs.Account.{total, ofSender, isPacket, everywhere, Account, Demand3}
+use Rattle.remy.specs.History.{Call, tick, called, after, noted, history, Fresh, PacketId, idOf, ids, entries, letterOf, isS, isF, isL, isC, isO, isI, isP, isQ, sends, admittedBy, admissions, starts, comesBack, leavesBy, leaves, droppedFull, lost, droppedBack, lostBack, counted, old, ignored}
+use Rattle.remy.specs.Queue.{partOf}
+use Rattle.remy.specs.State.{link}
+use Rattle.remy.specs.Account.{total, ofSender, isPacket, ifBack, waiting, onLine, everywhere, Account, Demand3}
 use Rattle.remy.proofs.Lists.{map-append, entries-append, starts-append, total-append, entries-either}
 use Rattle.remy.proofs.Lines.{line-account}
-use Rattle.remy.proofs.Facts.{FitState, fit-state}
+use Rattle.remy.proofs.Facts.{FitState, fit-state, first-there, second-there}
 use Rattle.remy.proofs.Kept.{Kept, kept-lists}
 use Rattle.remy.proofs.Steps.{cond-elim}
-use Rattle.remy.proofs.Outcomes.{OnMoves}
+use Rattle.remy.proofs.Outcomes.{OnMoves, Grown}
 use Rattle.remy.proofs.Turns.{turn-good}
 use Rattle.remy.proofs.Plain.{plain}
 use Rattle.remy.proofs.PlainTimes.{tick-plain}
@@ -36,7 +38,7 @@ use Rattle.remy.proofs.Start.{fresh-kept}
 -- ---- what is kept, with a history
 
 abbrev pub ListsAt : RemyNetwork → List TickRecord → Simulation → Type 0
-ListsAt n h s = Kept n (admissions h) (starts h) (leaves h) (sends h) (counted h) s
+ListsAt n h s = Kept n (λ l. admissions l h) (λ l. starts n l h) (λ l. leaves n l h) (sends h) (counted h) s
 
 -- and times that are plain
 pub record KeptAt (n : RemyNetwork) (h : List TickRecord) (s : Simulation) : Type 0 where
@@ -52,17 +54,18 @@ module _ (n : RemyNetwork) where
   unmoved-keeps h s number k = subst (λ (l : List TickRecord). ListsAt n l s) (sym (append-nil h)) k
 
   outcome-keeps : (h : List TickRecord) (s : Simulation) (o : Outcome) → ListsAt n h s
-      → OnMoves (λ r m. Kept n (admissions h ++ admissions (r ∷ [])) (starts h ++ starts (r ∷ [])) (leaves h ++ leaves (r ∷ [])) (sends h ++ sends (r ∷ [])) (counted h ++ counted (r ∷ [])) m) o
+      → OnMoves (Grown n (λ l. admissions l h) (λ l. starts n l h) (λ l. leaves n l h) (sends h) (counted h)) o
       → KeptBy h (ticked s o)
   outcome-keeps h s (stops number) k g = unmoved-keeps h s number k
   outcome-keeps h s (moves r m) k g =
-      kept-lists (sym (entries-append isS h (r ∷ []))) (sym (starts-append h (r ∷ []))) (sym (entries-append (λ x. isL x || (isC x || (isO x || isI x))) h (r ∷ [])))
+      kept-lists (λ l g. sym (entries-append (admittedBy l) h (r ∷ []))) (λ l g. sym (starts-append (partOf (n .senders) (link l)) h (r ∷ [])))
+      (λ l g. sym (entries-append (leavesBy n l) h (r ∷ [])))
       (sym (entries-append (λ x. isS x || isF x) h (r ∷ [])))
       (sym (ap ids (entries-append isC h (r ∷ [])) ∙ map-append (λ e. e .packet) (entries isC h) (entries isC (r ∷ [])))) g
 
 -- a tick: it does not move, or it is the turn of the next part of a fit state
 pub tick-elim : (F : Ticked → Type 0) (s : Simulation) → ((number : ℕ) → F (unmoved s number))
-    → (FitState s → lt (power 40) (s .head .clock .0 .0) ≡ false → (j : ℕ) → F (ticked s (outcomeOf s (roleOf (s .network .senders) j))))
+    → (FitState s → lt (power 40) (s .head .clock .0 .0) ≡ false → (j : ℕ) → F (ticked s (outcomeOf s (roleIn (s .network) j))))
     → F (tickOf s)
 unfolding tickOf
 tick-elim F s rests goes = cond-elim F (fit s) (tickNext s (s .head .next)) (unmoved s 9) (with-next (s .head .next)) (λ unfit. rests 9)
@@ -70,13 +73,13 @@ tick-elim F s rests goes = cond-elim F (fit s) (tickNext s (s .head .next)) (unm
     with-next : (x : Next) → fit s ≡ true → F (tickNext s x)
     with-next Next.None e = rests 0
     with-next (Next.Part j) e =
-        cond-elim F (lt (power 40) (s .head .clock .0 .0)) (unmoved s 10) (ticked s (outcomeOf s (roleOf (s .network .senders) j)))
+        cond-elim F (lt (power 40) (s .head .clock .0 .0)) (unmoved s 10) (ticked s (outcomeOf s (roleIn (s .network) j)))
         (λ late. rests 10)
         (λ early. goes (fit-state s e) early j)
 
 -- every tick is what an outcome gives
 outcome-elim : (F : Ticked → Type 0) (s : Simulation) → ((o : Outcome) → F (ticked s o)) → F (tickOf s)
-outcome-elim F s each = tick-elim F s (λ number. each (stops number)) (λ f early j. each (outcomeOf s (roleOf (s .network .senders) j)))
+outcome-elim F s each = tick-elim F s (λ number. each (stops number)) (λ f early j. each (outcomeOf s (roleIn (s .network) j)))
 
 -- a tick that does not move returns the state that it was given
 pub unmoved-same : (s : Simulation) → tickOf s .moved ≡ false → tickOf s .simulation ≡ s
@@ -99,7 +102,7 @@ tick-keeps h s k =
     record {
       lists =
           tick-elim (KeptBy (s .network) h) s (λ number. unmoved-keeps (s .network) h s number (k .lists))
-          (λ f early j. outcome-keeps (s .network) h s (outcomeOf s (roleOf (s .network .senders) j)) (k .lists) (turn-good f early (k .plain .clock) (k .plain .held) (k .lists) j));
+          (λ f early j. outcome-keeps (s .network) h s (outcomeOf s (roleIn (s .network) j)) (k .lists) (turn-good f early (k .plain .clock) (k .plain .held) (k .lists) j));
       plain = tick-plain s (k .plain);
     }
 
@@ -139,60 +142,109 @@ either true b e = inl refl
 either false b e = inr e
 
 module _ (f : PacketId → ℕ) (h : List TickRecord) where
-  pub sends-split : total f (ids (sends h)) ≡ total f (ids (admissions h)) + total f (droppedFull h)
+  pub sends-split : total f (ids (sends h)) ≡ total f (ids (admissions 0 h)) + total f (droppedFull h)
   sends-split = entries-either f isS isF (letters 83 70 (λ (e : 83 ≡ 70). omega arith)) h
 
-  leaves-split : total f (ids (leaves h)) ≡ total f (lost h) + (total f (counted h) + (total f (old h) + total f (ignored h)))
-  leaves-split =
-      entries-either f isL (λ m. isC m || (isO m || isI m))
-      (λ m l r. ⊎-elim (letters 76 67 (λ (e : 76 ≡ 67). omega arith) m l)
-      (λ (q : (isO m || isI m) ≡ true). ⊎-elim (letters 76 79 (λ (e : 76 ≡ 79). omega arith) m l) (letters 76 73 (λ (e : 76 ≡ 73). omega arith) m l) (either (isO m) (isI m) q))
-      (either (isC m) (isO m || isI m) r)) h
-      ∙ ap (λ (c : ℕ). total f (lost h) + c)
-      (entries-either f isC (λ m. isO m || isI m)
+  back-split : total f (ids (entries comesBack h)) ≡ total f (counted h) + (total f (old h) + total f (ignored h))
+  back-split =
+      entries-either f isC (λ m. isO m || isI m)
       (λ m l q. ⊎-elim (letters 67 79 (λ (e : 67 ≡ 79). omega arith) m l) (letters 67 73 (λ (e : 67 ≡ 73). omega arith) m l) (either (isO m) (isI m) q)) h
-      ∙ ap (λ (c : ℕ). total f (counted h) + c) (entries-either f isO isI (letters 79 73 (λ (e : 79 ≡ 73). omega arith)) h))
+      ∙ ap (λ (c : ℕ). total f (counted h) + c) (entries-either f isO isI (letters 79 73 (λ (e : 79 ≡ 73). omega arith)) h)
 
-  module _ (s : Simulation) where
-    -- the seven places one by one
-    abbrev places : ℕ
-    places = total f (droppedFull h) + (total f (map idOf (waitingPackets s)) + (total f (map idOf (onLinePackets s)) + (total f (lost h) + (total f (counted h) + (total f (old h) + total f (ignored h))))))
+  -- a mark of another letter, and the marks that come back
+  then-back : (a : ℕ) → (a ≡ 67 → ⊥) → (a ≡ 79 → ⊥) → (a ≡ 73 → ⊥)
+      → total f (ids (entries (λ m. eqb (letterOf m) a || comesBack m) h)) ≡ total f (ids (entries (λ m. eqb (letterOf m) a) h)) + (total f (counted h) + (total f (old h) + total f (ignored h)))
+  then-back a c o i =
+      entries-either f (λ m. eqb (letterOf m) a) comesBack
+      (λ m l r. ⊎-elim (letters a 67 c m l) (λ (q : (isO m || isI m) ≡ true). ⊎-elim (letters a 79 o m l) (letters a 73 i m l) (either (isO m) (isI m) q)) (either (isC m) (isO m || isI m) r)) h
+      ∙ ap (λ (c : ℕ). total f (ids (entries (λ m. eqb (letterOf m) a) h)) + c) back-split
 
-    pub everywhere-split : total f (everywhere h s) ≡ places
-    everywhere-split =
-        total-append f (droppedFull h) _
-        ∙ ap (λ (c : ℕ). total f (droppedFull h) + c)
-        (total-append f (map idOf (waitingPackets s)) _
-        ∙ ap (λ (c : ℕ). total f (map idOf (waitingPackets s)) + c)
-        (total-append f (map idOf (onLinePackets s)) _
-        ∙ ap (λ (c : ℕ). total f (map idOf (onLinePackets s)) + c)
-        (total-append f (lost h) _
-        ∙ ap (λ (c : ℕ). total f (lost h) + c)
-        (total-append f (counted h) _
-        ∙ ap (λ (c : ℕ). total f (counted h) + c) (total-append f (old h) (ignored h))))))
+  module _ (n : RemyNetwork) where
+    -- the leaves of the first line, without a return line and with one, and those of the second
+    first-split : hasBack (n .back) ≡ false → total f (ids (leaves n 0 h)) ≡ total f (lost h) + (total f (counted h) + (total f (old h) + total f (ignored h)))
+    first-split e =
+        ap (λ (b : Bool). total f (ids (entries (λ m. isL m || cond b (isP m || isQ m) (comesBack m)) h))) e
+        ∙ then-back 76 (λ (d : 76 ≡ 67). omega arith) (λ (d : 76 ≡ 79). omega arith) (λ (d : 76 ≡ 73). omega arith)
 
-    -- every packet sent is in one of them
-    pub partition : ids (admissions h) ≡ ids (starts h) ++ map (λ x. idOf (x .packet)) (waitingItems s)
-        → ids (starts h) ≡ ids (leaves h) ++ map (λ x. idOf (x .packet)) (onLineItems s)
-        → total f (ids (sends h)) ≡ places
-    partition admitted started =
-        let begun : total f (ids (admissions h)) ≡ total f (ids (starts h)) + total f (map idOf (waitingPackets s)) =
-        ap (total f) (admitted ∙ ap (λ (l : List PacketId). ids (starts h) ++ l) (sym (map-map idOf (λ x. x .packet) (waitingItems s))))
-        ∙ total-append f (ids (starts h)) (map idOf (waitingPackets s)) in
-        let left : total f (ids (starts h)) ≡ total f (ids (leaves h)) + total f (map idOf (onLinePackets s)) =
-        ap (total f) (started ∙ ap (λ (l : List PacketId). ids (leaves h) ++ l) (sym (map-map idOf (λ x. x .packet) (onLineItems s))))
-        ∙ total-append f (ids (leaves h)) (map idOf (onLinePackets s)) in
-        omega (arith, sends-split, begun, left, leaves-split)
+    passed-split : hasBack (n .back) ≡ true → total f (ids (leaves n 0 h)) ≡ total f (lost h) + (total f (ids (admissions 1 h)) + total f (droppedBack h))
+    passed-split e =
+        ap (λ (b : Bool). total f (ids (entries (λ m. isL m || cond b (isP m || isQ m) (comesBack m)) h))) e
+        ∙ entries-either f isL (λ m. isP m || isQ m)
+        (λ m l r. ⊎-elim (letters 76 80 (λ (d : 76 ≡ 80). omega arith) m l) (letters 76 81 (λ (d : 76 ≡ 81). omega arith) m l) (either (isP m) (isQ m) r)) h
+        ∙ ap (λ (c : ℕ). total f (lost h) + c) (entries-either f isP isQ (letters 80 81 (λ (d : 80 ≡ 81). omega arith)) h)
+
+    second-split : total f (ids (leaves n 1 h)) ≡ total f (lostBack h) + (total f (counted h) + (total f (old h) + total f (ignored h)))
+    second-split = then-back 78 (λ (d : 78 ≡ 67). omega arith) (λ (d : 78 ≡ 79). omega arith) (λ (d : 78 ≡ 73). omega arith)
+
+    module _ (s : Simulation) where
+      -- the eleven places one by one
+      abbrev places : ℕ
+      places =
+          total f (droppedFull h)
+          + (total f (waiting s 0)
+          + (total f (onLine s 0)
+          + (total f (lost h)
+          + (total f (ifBack n (droppedBack h))
+          + (total f (ifBack n (waiting s 1))
+          + (total f (ifBack n (onLine s 1))
+          + (total f (ifBack n (lostBack h)) + (total f (counted h) + (total f (old h) + total f (ignored h))))))))))
+
+      pub everywhere-split : total f (everywhere n h s) ≡ places
+      everywhere-split =
+          more (droppedFull h) _
+          (more (waiting s 0) _
+          (more (onLine s 0) _
+          (more (lost h) _
+          (more (ifBack n (droppedBack h)) _
+          (more (ifBack n (waiting s 1)) _ (more (ifBack n (onLine s 1)) _ (more (ifBack n (lostBack h)) _ (more (counted h) _ (total-append f (old h) (ignored h))))))))))
+        where
+          more : (xs ys : List PacketId) {c : ℕ} → total f ys ≡ c → total f (xs ++ ys) ≡ total f xs + c
+          more xs ys e = total-append f xs ys ∙ ap (λ (c : ℕ). total f xs + c) e
+
+      module _ (admitted : (l : ℕ) → l < lineCount n → ids (admissions l h) ≡ ids (starts n l h) ++ map (λ x. idOf (x .packet)) (waitingItems s l))
+          (started : (l : ℕ) → l < lineCount n → ids (starts n l h) ≡ ids (leaves n l h) ++ map (λ x. idOf (x .packet)) (onLineItems s l)) where
+        -- what was admitted to a line has started or waits, and what started has left or is on it
+        begun : (l : ℕ) → l < lineCount n → total f (ids (admissions l h)) ≡ total f (ids (starts n l h)) + total f (waiting s l)
+        begun l g =
+            ap (total f) (admitted l g ∙ ap (λ (ps : List PacketId). ids (starts n l h) ++ ps) (sym (map-map idOf (λ x. x .packet) (waitingItems s l))))
+            ∙ total-append f (ids (starts n l h)) (waiting s l)
+
+        gone : (l : ℕ) → l < lineCount n → total f (ids (starts n l h)) ≡ total f (ids (leaves n l h)) + total f (onLine s l)
+        gone l g =
+            ap (total f) (started l g ∙ ap (λ (ps : List PacketId). ids (leaves n l h) ++ ps) (sym (map-map idOf (λ x. x .packet) (onLineItems s l))))
+            ∙ total-append f (ids (leaves n l h)) (onLine s l)
+
+        -- every packet sent is in one of the places
+        pub partition : total f (ids (sends h)) ≡ places
+        partition = by (hasBack (n .back)) refl
+          where
+            by : (b : Bool) → hasBack (n .back) ≡ b → total f (ids (sends h)) ≡ places
+            by true e =
+                let there = second-there (hasBack (n .back)) e in
+                let first = first-there (hasBack (n .back)) in
+                let a = begun 0 first in
+                let b = gone 0 first in
+                let c = begun 1 there in
+                let d = gone 1 there in
+                let split = passed-split e in
+                rw e (omega (arith, sends-split, a, b, c, d, split, second-split))
+            by false e =
+                let first = first-there (hasBack (n .back)) in
+                let a = begun 0 first in
+                let b = gone 0 first in
+                let split = first-split e in
+                rw e (omega (arith, sends-split, a, b, split))
 
 account : (n : RemyNetwork) (h : List TickRecord) (s : Simulation) → ListsAt n h s → Account n h s
 account n h s k =
+    let all : (f : PacketId → ℕ) → total f (ids (sends h)) ≡ places f h n s = λ f. partition f h n s (λ l g. k .line l g .books .starts) (λ l g. k .line l g .books .leaves) in
     record {
       network = k .network;
       sent = λ i below. k .sends i ∙ sends-split (ofSender i) h;
-      books = λ i below. let all = partition (ofSender i) h s (k .line .starts) (k .line .leaves) in omega (arith, k .sends i, all);
-      once = λ i m. everywhere-split (isPacket i m) h s ∙ sym (partition (isPacket i m) h s (k .line .starts) (k .line .leaves)) ∙ k .once i m;
+      books = λ i below. let each = all (ofSender i) in omega (arith, k .sends i, each);
+      once = λ i m. everywhere-split (isPacket i m) h n s ∙ sym (all (isPacket i m)) ∙ k .once i m;
       meter = k .meter;
-      line = line-account (k .line);
+      line = λ l g. line-account (k .line l g);
     }
 
 -- Nobody who builds an accepted network and ticks it can mislay a packet or meet one twice.

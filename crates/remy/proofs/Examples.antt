@@ -17,44 +17,46 @@ use Rattle.link.specs.declared.link.Limit.the-variants as Limit
 use Rattle.sender.specs.declared.lossy.Policy.{Policy}
 use Rattle.sender.specs.declared.lossy.Policy.the-variants.{Held, Timed}
 use Rattle.toggler.specs.Queue.{queuePlaces, noQueued}
+use Rattle.remy.specs.declared.network.ReturnLine.{ReturnLine}
+use Rattle.remy.specs.declared.network.ReturnLine.the-variants as Back
+use Rattle.remy.specs.declared.network.RemyNetwork.{RemyNetwork}
 use Rattle.remy.specs.declared.simulation.Simulation.{Simulation}
 use Rattle.remy.specs.declared.simulation.Mark.{Mark}
 use Rattle.remy.specs.declared.simulation.Mark.the-variants as Mark
 use Rattle.remy.specs.declared.simulation.Name.{Name}
 use Rattle.remy.specs.declared.simulation.Name.the-variants as Name
 use Rattle.remy.specs.declared.simulation.TickRecord.{TickRecord}
-use Rattle.remy.specs.State.{withLine, withQueued, meterAt}
+use Rattle.remy.specs.State.{lineAt, meterAt, withLine, withQueued}
 use Rattle.remy.specs.Build.{buildOf}
 use Rattle.remy.specs.Tick.{tickOf}
 use Rattle.remy.specs.History.{ticks, after, history}
 use Rattle.remy.proofs.Opened.{ticking}
 
-abbrev three : Float
+abbrev pub three : Float
 three = fin false 3 (pos 0)
 
-abbrev five : Float
+abbrev pub five : Float
 five = fin false 5 (pos 0)
 
-abbrev hundred : Float
+abbrev pub hundred : Float
 hundred = fin false 25 (pos 2)
 
--- rate 8, loss 0, so many senders with these bits, on and off always so long; seed 1
-abbrev builtOf : List ℕ → ℕ → Float → Limit → Float → Float → Policy → Simulation
-builtOf sizes senders delay limit on off policy =
-    buildOf
-    (record {
-      delay = delay;
-      rate = power 3;
-      loss = zeroF;
-      limit = limit;
+-- rate 8, loss 0, so many senders with these bits, on and off always so long
+abbrev pub networkOf : ReturnLine → List ℕ → ℕ → Float → Limit → Float → Float → Policy → RemyNetwork
+networkOf back sizes senders delay limit on off policy =
+    record {
+      line = record { delay = delay; rate = power 3; loss = zeroF; limit = limit };
+      back = back;
       bits = sizes;
       senders = senders;
       on = Always on;
       off = Always off;
       policy = policy;
-    })
-    1
-    .simulation
+    }
+
+-- no return line, seed 1
+abbrev builtOf : List ℕ → ℕ → Float → Limit → Float → Float → Policy → Simulation
+builtOf sizes senders delay limit on off policy = buildOf (networkOf Back.None sizes senders delay limit on off policy) 1 .simulation
 
 -- one sender, bits 8
 abbrev builtWith : Float → Limit → Float → Float → Policy → Simulation
@@ -64,13 +66,13 @@ builtWith delay limit on off policy = builtOf (replicate 16 8) 1 delay limit on 
 abbrev pub built : Float → Limit → ℕ → Simulation
 built delay limit window = builtWith delay limit hundred (power 0) (Held window)
 
-abbrev line : Float → ℕ → Mark → Name → Name → TickRecord
+abbrev pub line : Float → ℕ → Mark → Name → Name → TickRecord
 line time part mark packet started = record { time = timeOf time; part = part; mark = mark; packet = packet; started = started }
 
-abbrev packet : ℕ → Name
+abbrev pub packet : ℕ → Name
 packet m = Name.Packet 0 m
 
-abbrev none : Name
+abbrev pub none : Name
 none = Name.None
 
 -- ---- the worked example: delay 1, limit 8, held 3
@@ -96,7 +98,7 @@ unfolding ticking
 worked-history = refl
 
 -- one packet left, so one sample was drawn
-worked-words : after (ticks 7) worked .line .rng ≡ fromWords 14956314531195876544 7576440072486442806 6053824538967488443 6254198100547973758
+worked-words : lineAt (after (ticks 7) worked) 0 .rng ≡ fromWords 14956314531195876544 7576440072486442806 6053824538967488443 6254198100547973758
 unfolding ticking
 worked-words = refl
 
@@ -110,13 +112,13 @@ worked-meter = refl
 
 abbrev pub withBits : Simulation → ℕ → Simulation
 withBits s bits =
-    withLine s
+    withLine s 0
     (record {
-      «earliest_transmit» = s .line .«earliest_transmit»;
+      «earliest_transmit» = lineAt s 0 .«earliest_transmit»;
       «buffer_contains» = amountOf bits;
-      waiting = s .line .waiting;
-      «on_line» = s .line .«on_line»;
-      rng = s .line .rng;
+      waiting = lineAt s 0 .waiting;
+      «on_line» = lineAt s 0 .«on_line»;
+      rng = lineAt s 0 .rng;
     })
 
 unfit-bits : tickOf (withBits worked 1) .number ≡ 9
@@ -185,7 +187,7 @@ unfolding ticking
 sizes-history = refl
 
 -- 16 bits wait before 0:2 starts, and 8 after it
-sizes-tally : after (ticks 8) twoSizes .line .«buffer_contains» ≡ amountOf 8
+sizes-tally : lineAt (after (ticks 8) twoSizes) 0 .«buffer_contains» ≡ amountOf 8
 unfolding ticking
 sizes-tally = refl
 

@@ -1,9 +1,10 @@
--- What the fit test says where it passes: each clause by name, and at each sender. Assumes nothing.
+-- What the fit test says where it passes: each clause by name, and at each sender and line; how many lines there are. Assumes nothing.
 use mathlib.Core.Path.{_≡_, refl, sym, subst}
-use mathlib.Core.Bool.{Bool, true, false, not, _&&_, false≢true}
+use mathlib.Core.Bool.{Bool, true, false, not, _&&_, cond, false≢true}
 use mathlib.Core.List.{List, _∷_}
-use Prim.Native.Nat.{ℕ, zero, suc, _≤_, _<_}
+use Prim.Native.Nat.{ℕ, zero, suc, _+_, _≤_, _<_}
 use native.Mathlib.Nat.{not-suc-le-zero, eq-or-lt-of-le, le-of-suc-le-suc}
+use native.Mathlib.Omega.{arith}
 use mathlib.Core.Logic.{inl, inr}
 use borrow.Author.Tests.{leb-true}
 use lib.Dec.{T, leb}
@@ -13,8 +14,8 @@ use Rattle.quantities.specs.Doubles.{inRange}
 use Rattle.rand.specs.Generator.{allZero}
 use Rattle.remy.specs.declared.simulation.Simulation.{Simulation}
 use Rattle.remy.specs.Network.{upTo, between}
-use Rattle.remy.specs.State.{senderAt, togglerAt}
-use Rattle.remy.specs.Fit.{every, eachSender, networkFit, ringsFit, packetsFit, bitsFit, clockFit, heldTimesFit, pastFit, totalsFit, sumsFit, recordsFit, dueFit, countsFit, windowsFit, timersFit, togglersAgree, metersAgree, meterBitsFit, queueFit, carriedFit, wordsFit, fit}
+use Rattle.remy.specs.State.{lineAt, senderAt, togglerAt}
+use Rattle.remy.specs.Fit.{every, eachSender, eachLine, sumTo, networkFit, ringsFit, packetsFit, bitsFit, clockFit, heldTimesFit, pastFit, totalsFit, sumsFit, recordsFit, dueFit, countsFit, windowsFit, timersFit, togglersAgree, metersAgree, meterBitsFit, queueFit, carriedFit, wordsFit, fit}
 
 -- ---- conjunctions
 
@@ -61,8 +62,33 @@ upTo-at (suc n) f e i h = elim (eq-or-lt-of-le (le-of-suc-le-suc h)) [
   | inr below ↦ upTo-at n f (both-l (upTo n f) (f n) e) i below
 ]
 
+-- one of the numbers that are summed
+pub sumTo-at : (n : ℕ) (f : ℕ → ℕ) (l : ℕ) → l < n → f l ≤ sumTo n f
+sumTo-at zero f l h = absurd (not-suc-le-zero h)
+sumTo-at (suc n) f l h = elim (eq-or-lt-of-le (le-of-suc-le-suc h)) [
+  | inl same ↦ subst (λ (j : ℕ). f j ≤ sumTo n f + f n) (sym same) (omega arith)
+  | inr below ↦ (let less = sumTo-at n f l below in omega (arith, less))
+]
+
 pub every-first : {A : Type 0} (f : A → Bool) (x : A) (xs : List A) → every f (x ∷ xs) ≡ true → f x ≡ true
 every-first f x xs e = both-l (f x) (every f xs) e
+
+-- ---- one line, and with a return line a second
+
+pub first-there : (back : Bool) → 0 < cond back 2 1
+first-there true = omega arith
+first-there false = omega arith
+
+pub second-there : (back : Bool) → back ≡ true → 1 < cond back 2 1
+second-there back e = rw e (omega arith)
+
+pub lines-few : (back : Bool) → cond back 2 1 ≤ 2
+lines-few true = omega arith
+lines-few false = omega arith
+
+pub at-second : (back : Bool) (l : ℕ) → suc l < cond back 2 1 → (l ≡ 0) × (back ≡ true)
+at-second true l h = (omega arith, refl)
+at-second false l h = let no : ⊥ = omega arith in absurd no
 
 -- ---- the clauses
 
@@ -153,7 +179,7 @@ fit-state s all =
 -- ---- the clause on words, taken apart and joined
 
 pub record FitWords (s : Simulation) : Type 0 where
-  pub link : not (allZero (s .line .rng)) ≡ true
+  pub link : eachLine s (λ l. not (allZero (lineAt s l .rng))) ≡ true
   pub senders : eachSender s (λ i. not (allZero (senderAt s i .rng))) ≡ true
   pub togglers : eachSender s (λ i. not (allZero (togglerAt s i .rng))) ≡ true
 
@@ -161,7 +187,7 @@ module _ (s : Simulation) where
   pub words-apart : wordsFit s ≡ true → FitWords s
   unfolding wordsFit
   words-apart e =
-      let link = not (allZero (s .line .rng)) in
+      let link = eachLine s (λ l. not (allZero (lineAt s l .rng))) in
       let senders = eachSender s (λ i. not (allZero (senderAt s i .rng))) in
       let togglers = eachSender s (λ i. not (allZero (togglerAt s i .rng))) in
       let to-senders = both-l (link && senders) togglers e in

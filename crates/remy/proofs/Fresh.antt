@@ -27,6 +27,7 @@ use Rattle.rand.specs.Draws.{sampleOf, unitOf, uniformOf, drawOf, PositiveDraw,
 use Rattle.rand.proofs.ZeroWords.{zero-words}
 use Rattle.meters.specs.Meter.{newMeter, isOn}
 use Rattle.toggler.proofs.Least.{picked-there, picked-inside, picked-le, picked-nothing}
+use Rattle.link.specs.declared.link.Line.{Line}
 use Rattle.sender.specs.declared.lossy.LossySender.{LossySender}
 use Rattle.toggler.specs.declared.toggler.Toggler.{Toggler}
 use Rattle.toggler.specs.declared.toggler.Toggled.{Toggled}
@@ -41,11 +42,11 @@ use Rattle.remy.specs.declared.simulation.Head.{Head}
 use Rattle.remy.specs.declared.simulation.Simulation.{Simulation}
 use Rattle.remy.specs.declared.simulation.Built.{Built}
 use Rattle.remy.specs.Network.{upTo, timesFit, networkStop}
-use Rattle.remy.specs.State.{Role, link, sender, toggler, nobody, roleOf, noSender, noToggler, noMeter, senderAt, togglerAt, meterAt, queuedAt, withHead, withQueue}
-use Rattle.remy.specs.Queue.{ownTime, nextTimeOf, partOf, headOf, removed, picked}
-use Rattle.remy.specs.Build.{newLine, newSender, Parts, noParts, populate, unqueued, ownTimes, queuedAll, notBuilt, buildFrom, buildOf}
-use Rattle.remy.specs.Fit.{eachSender, held, heldIfAny, isIdle, heldSender, heldQueued, isNext, startedFit, meterStartFit, sameTime, nextFit, networkFit, ringsFit, packetsFit, bitsFit, clockFit, heldTimesFit, pastFit, totalsFit, sumsFit, recordsFit, dueFit, countsFit, windowsFit, timersFit, togglersAgree, metersAgree, meterBitsFit, queueFit, carriedFit, wordsFit, fit}
-use Rattle.remy.proofs.Facts.{both-l, both-r, holds, words-joined}
+use Rattle.remy.specs.State.{hasBack, lineCount, Role, link, bouncer, sender, toggler, nobody, noLine, noSender, noToggler, noMeter, lineAt, senderAt, togglerAt, meterAt, queuedAt, waitingPackets, onLineItems, onLinePackets, withHead, withQueue}
+use Rattle.remy.specs.Queue.{ownTime, nextTimeOf, headOf, removed, picked}
+use Rattle.remy.specs.Build.{newLine, newSender, Parts, noParts, populate, backWords, unqueued, ownTimes, queuedAll, notBuilt, buildFrom, buildOf}
+use Rattle.remy.specs.Fit.{every, eachSender, eachLine, sumTo, underWay, held, heldIfAny, isIdle, heldSender, heldQueued, isNext, sinceStart, startedFit, meterStartFit, sameTime, nextFit, networkFit, ringsFit, packetsFit, bitsFit, clockFit, heldTimesFit, pastFit, totalsFit, sumsFit, recordsFit, dueFit, countsFit, windowsFit, timersFit, togglersAgree, metersAgree, meterBitsFit, queueFit, carriedFit, wordsFit, fit}
+use Rattle.remy.proofs.Facts.{both-l, both-r, holds, lines-few, words-joined}
 use Rattle.remy.proofs.Networks.{fit-network, few-senders}
 use Rattle.remy.proofs.Lists.{All}
 use Rattle.remy.proofs.Kept.{at-set}
@@ -71,16 +72,10 @@ pub fit-intro : (s : Simulation) → networkFit s ≡ true → ringsFit s ≡ tr
 unfolding fit
 fit-intro s a b c d e f g h i j k l m n o p q r t u = rw (a, b, c, d, e, f, g, h, i, j, k, l, m, n, o, p, q, r, t, u)
 
--- what holds of the link, of each sender and each toggler below n, and of nobody, holds of every part's role
-pub role-elim : (P : Role → Type 0) (n k : ℕ) → P link → ((i : ℕ) → i < n → P (sender i)) → ((i : ℕ) → i < n → P (toggler i)) → P nobody
-    → P (roleOf n k)
-role-elim P n k a b c d = role-at P n k at d
-  where
-    at : (role : Role) → Real n role → k ≡ partOf role → P role
-    at link r e = a
-    at (sender i) r e = b i r
-    at (toggler i) r e = c i r
-    at nobody r e = absurd r
+-- a sum of zeros
+sum-none : (n : ℕ) (f : ℕ → ℕ) → ((l : ℕ) → l < n → f l ≡ 0) → sumTo n f ≡ 0
+sum-none zero f h = refl
+sum-none (suc n) f h = rw (sum-none n f (λ l k. h l (omega arith)), h n (omega arith))
 
 -- ---- draws are in 0..2^20
 
@@ -164,48 +159,63 @@ pub record New (parts : Parts) : Type 0 where
   pub senders : Filled Off (parts .senders)
   pub togglers : Filled Waits (parts .togglers)
 
-pub no-parts : New noParts
-no-parts =
+pub no-parts : (root : Rng) → New (noParts root)
+no-parts root =
     record {
       senders = (refl, all-replicate Off 16 _ (record { off = refl; words = zero-words .seed 0 }));
       togglers = (refl, all-replicate Waits 16 _ (record { off = refl; soon = zero-within; words = zero-words .seed 0 }));
     }
 
 -- Whether a draw was spent or not, every part is new.
-pub populate-new : (left i : ℕ) (root : Rng) (d : ContinuousDistribution) (parts : Parts) → timesFit d ≡ true → New parts → New (populate left i root d parts)
+pub populate-new : (left i : ℕ) (d : ContinuousDistribution) (parts : Parts) → timesFit d ≡ true → New parts → New (populate left i d parts)
 unfolding populate
-populate-new zero i root d parts h w = w
-populate-new (suc left) i root d parts h w =
-    let c = childOf root in
+populate-new zero i d parts h w = w
+populate-new (suc left) i d parts h w =
+    let c = childOf (parts .root) in
     let e = childOf (c .parent) in
     let t = newToggler (e .child) d in
-    let more : Parts = record { number = t .number; senders = set (parts .senders) i (newSender (c .child)); togglers = set (parts .togglers) i (t .toggler) } in
+    let more : Parts = record { number = t .number; root = e .parent; senders = set (parts .senders) i (newSender (c .child)); togglers = set (parts .togglers) i (t .toggler) } in
     let w' : New more =
     record {
-      senders = filled-set Off (parts .senders) i (newSender (c .child)) (record { off = refl; words = zero-words .child root }) (w .senders);
+      senders = filled-set Off (parts .senders) i (newSender (c .child)) (record { off = refl; words = zero-words .child (parts .root) }) (w .senders);
       togglers = filled-set Waits (parts .togglers) i (t .toggler) (new-toggler (e .child) d (zero-words .child (c .parent)) h) (w .togglers);
     } in
-    cond-elim New (eqb (t .number) 0) (populate left (i + 1) (e .parent) d more) more (λ z. populate-new left (i + 1) (e .parent) d more h w') (λ z. w')
+    cond-elim New (eqb (t .number) 0) (populate left (i + 1) d more) more (λ z. populate-new left (i + 1) d more h w') (λ z. w')
 
 -- ---- a state in which nothing has happened, whatever its head and its queue are
 
+-- a line that no packet came to, with words that are not all zero
+record Unused (x : Line) : Type 0 where
+  new : x ≡ newLine (x .rng)
+  words : allZero (x .rng) ≡ false
+
 record Blank (s : Simulation) : Type 0 where
   network : networkStop (s .network) ≡ 0
-  rng : Rng
-  line : s .line ≡ newLine rng
-  words : allZero rng ≡ false
+  lines : (l : ℕ) → l < lineCount (s .network) → Unused (lineAt s l)
   senders : (i : ℕ) → i < s .network .senders → Off (senderAt s i)
   togglers : (i : ℕ) → i < s .network .senders → Waits (togglerAt s i)
   meters : (i : ℕ) → i < s .network .senders → meterAt s i ≡ newMeter
 
-unqueued-blank : (n : RemyNetwork) (g : Rng) (parts : Parts) → networkStop n ≡ 0 → allZero g ≡ false → New parts → Blank (unqueued n g parts)
-unqueued-blank n g parts e some w =
+-- the second link's words too, which without a return line are those of seed 0
+back-words : (n : RemyNetwork) (root : Rng) → allZero (backWords n root) ≡ false
+unfolding backWords
+back-words n root = cond-elim (λ (g : Rng). allZero g ≡ false) (hasBack (n .back)) _ _ (λ e. zero-words .child root) (λ e. zero-words .seed 0)
+
+-- what holds of the two new lines holds of every line of the network
+pub new-lines : (P : ℕ → Line → Type 0) (n : RemyNetwork) (g back : Rng) → P 0 (newLine g) → P 1 (newLine back)
+    → (l : ℕ) → l < lineCount n → P l (getD (newLine g ∷ (newLine back ∷ [])) l noLine)
+new-lines P n g back p q zero h = p
+new-lines P n g back p q (suc zero) h = q
+new-lines P n g back p q (suc (suc l)) h =
+    let few = lines-few (hasBack (n .back)) in
+    absurd (omega arith)
+
+unqueued-blank : (n : RemyNetwork) (g back : Rng) (parts : Parts) → networkStop n ≡ 0 → allZero g ≡ false → allZero back ≡ false → New parts → Blank (unqueued n g back parts)
+unqueued-blank n g back parts e some others w =
     let few : n .senders ≤ 16 = few-senders (fit-network n e) in
     record {
       network = e;
-      rng = g;
-      line = refl;
-      words = some;
+      lines = new-lines (λ l. Unused) n g back (record { new = refl; words = some }) (record { new = refl; words = others });
       senders = λ i h. filled-at Off (parts .senders) i noSender (omega arith) (w .senders);
       togglers = λ i h. filled-at Waits (parts .togglers) i noToggler (omega arith) (w .togglers);
       meters = λ i h. getD-replicate 16 i newMeter noMeter (omega arith);
@@ -220,19 +230,19 @@ module _ (s : Simulation) (b : Blank s) where
 
   rings-fit : ringsFit s ≡ true
   unfolding ringsFit
-  rings-fit = rw (b .line)
+  rings-fit = upTo-intro _ _ (λ l h. rw (b .lines l h .new))
 
   packets-fit : packetsFit s ≡ true
   unfolding packetsFit
-  packets-fit = rw (b .line)
+  packets-fit = upTo-intro _ _ (λ l h. rw (b .lines l h .new))
 
   bits-fit : bitsFit s ≡ true
   unfolding bitsFit
-  bits-fit = rw (b .line)
+  bits-fit = upTo-intro _ _ (λ l h. rw (b .lines l h .new))
 
   due-fit : dueFit s ≡ true
   unfolding dueFit
-  due-fit = rw (b .line)
+  due-fit = upTo-intro _ _ (λ l h. rw (b .lines l h .new))
 
   totals-fit : totalsFit s ≡ true
   unfolding totalsFit le
@@ -244,7 +254,11 @@ module _ (s : Simulation) (b : Blank s) where
 
   records-fit : recordsFit s ≡ true
   unfolding recordsFit
-  records-fit = upTo-intro _ _ (λ i h. rw (b .meters i h, b .senders i h .off, b .line))
+  records-fit =
+      upTo-intro _ _
+      (λ i h.
+      let none : sumTo (lineCount (s .network)) (underWay s i) ≡ 0 = sum-none _ (underWay s i) (λ l k. rw (b .lines l k .new)) in
+      rw (none, b .meters i h, b .senders i h .off))
 
   counts-fit : countsFit s ≡ true
   unfolding countsFit
@@ -272,13 +286,13 @@ module _ (s : Simulation) (b : Blank s) where
 
   carried-fit : carriedFit s ≡ true
   unfolding carriedFit
-  carried-fit = rw (b .line)
+  carried-fit = upTo-intro _ _ (λ l h. rw (b .lines l h .new))
 
   words-fit : wordsFit s ≡ true
   words-fit =
       words-joined s
       (record {
-        link = rw (b .line, b .words);
+        link = upTo-intro _ _ (λ l h. rw (b .lines l h .words));
         senders = upTo-intro _ _ (λ i h. rw (b .senders i h .words));
         togglers = upTo-intro _ _ (λ i h. rw (b .togglers i h .words));
       })
@@ -288,7 +302,9 @@ module _ (s : Simulation) (b : Blank s) where
   past-fit =
       let off : eachSender s (λ i. startedFit s (senderAt s i .state)) ≡ true = upTo-intro _ _ (λ i h. rw (b .senders i h .off)) in
       let empty : eachSender s (λ i. meterStartFit s (meterAt s i .«current_start»)) ≡ true = upTo-intro _ _ (λ i h. rw (b .meters i h)) in
-      rw (off, empty, b .line)
+      let waiting : eachLine s (λ l. every (λ p. sinceStart s (p .«sent_time»)) (waitingPackets s l)) ≡ true = upTo-intro _ _ (λ l h. rw (b .lines l h .new)) in
+      let moving : eachLine s (λ l. every (λ p. sinceStart s (p .«sent_time»)) (onLinePackets s l)) ≡ true = upTo-intro _ _ (λ l h. rw (b .lines l h .new)) in
+      rw (waiting, moving, off, empty)
 
 -- ---- the clauses that read them
 
@@ -328,7 +344,11 @@ module _ (s : Simulation) (b : Blank s) (a : Ready s) where
       let toggles : eachSender s (λ i. held (togglerAt s i .«next_toggle»)) ≡ true = upTo-intro _ _ (λ i h. held-soon _ (b .togglers i h .soon)) in
       let empty : eachSender s (λ i. heldIfAny (meterAt s i .«current_start»)) ≡ true = upTo-intro _ _ (λ i h. rw (b .meters i h)) in
       let queued : upTo queuePlaces (λ k. heldQueued s (queuedAt s k)) ≡ true = upTo-intro _ _ (a .later) in
-      rw (a .now, off, toggles, empty, queued, b .line, least-held)
+      let free : eachLine s (λ l. held (lineAt s l .«earliest_transmit»)) ≡ true = upTo-intro _ _ (λ l h. rw (b .lines l h .new, least-held)) in
+      let waiting : eachLine s (λ l. every (λ p. held (p .«sent_time»)) (waitingPackets s l)) ≡ true = upTo-intro _ _ (λ l h. rw (b .lines l h .new)) in
+      let moving : eachLine s (λ l. every (λ p. held (p .«sent_time»)) (onLinePackets s l)) ≡ true = upTo-intro _ _ (λ l h. rw (b .lines l h .new)) in
+      let due : eachLine s (λ l. every (λ x. held (x .due)) (onLineItems s l)) ≡ true = upTo-intro _ _ (λ l h. rw (b .lines l h .new)) in
+      rw (a .now, free, waiting, moving, due, off, toggles, empty, queued)
 
   blank-fit : fit s ≡ true
   blank-fit =
@@ -358,24 +378,30 @@ times-at s (suc left) k (suc i) h =
 
 module _ (s : Simulation) (b : Blank s) where
   -- only togglers have a next time
-  soon : (k : ℕ) → Soon (nextTimeOf s k)
+  role-soon : (role : Role) → Real (s .network) role → Soon (ownTime s role)
   unfolding ownTime nextTick nextTransmit nextDeliver senderNext
-  soon k =
-      role-elim (λ (role : Role). Soon (ownTime s role)) (s .network .senders) k
-      (rw (b .line) tt)
-      (λ i h. rw (b .senders i h .off) tt)
-      (λ i h. b .togglers i h .soon)
-      tt
+  role-soon (link l) h = rw (b .lines l h .new) tt
+  role-soon bouncer h = tt
+  role-soon (sender i) h = rw (b .senders i h .off) tt
+  role-soon (toggler i) h = b .togglers i h .soon
+  role-soon nobody h = tt
+
+  soon : (k : ℕ) → Soon (nextTimeOf s k)
+  soon k = role-at (λ (role : Role). Soon (ownTime s role)) (s .network) k (λ role h e. role-soon role h) (unfold ownTime in tt)
 
   -- a toggle is read from its toggler, so that another head or queue changes no next time
-  own-same : (head : Head) (queue : List Queued) (k : ℕ) → nextTimeOf (withHead (withQueue s queue) head) k ≡ nextTimeOf s k
-  unfolding ownTime nextTick nextTransmit senderNext
-  own-same head queue k =
-      role-elim (λ (role : Role). ownTime (withHead (withQueue s queue) head) role ≡ ownTime s role) (s .network .senders) k
-      (rw (b .line))
-      (λ i h. rw (b .senders i h .off))
-      (λ i h. refl)
-      refl
+  module _ (head : Head) (queue : List Queued) where
+    role-same : (role : Role) → Real (s .network) role → ownTime (withHead (withQueue s queue) head) role ≡ ownTime s role
+    unfolding ownTime nextTick nextTransmit senderNext
+    role-same (link l) h = rw (b .lines l h .new)
+    role-same bouncer h = refl
+    role-same (sender i) h = rw (b .senders i h .off)
+    role-same (toggler i) h = refl
+    role-same nobody h = refl
+
+    own-same : (k : ℕ) → nextTimeOf (withHead (withQueue s queue) head) k ≡ nextTimeOf s k
+    own-same k =
+        role-at (λ (role : Role). ownTime (withHead (withQueue s queue) head) role ≡ ownTime s role) (s .network) k (λ role h e. role-same role h) (unfold ownTime in refl)
 
 -- a time in 0..2^20 is no NaN, so it is the same as itself
 same-self : (x : OptionTime) → Soon x → sameTime x x ≡ true
@@ -401,7 +427,7 @@ module _ (s : Simulation) (b : Blank s) where
 
   after-blank : (time : OptionTime) → Blank (after s time)
   after-blank time =
-      record { network = b .network; rng = b .rng; line = b .line; words = b .words; senders = b .senders; togglers = b .togglers; meters = b .meters }
+      record { network = b .network; lines = b .lines; senders = b .senders; togglers = b .togglers; meters = b .meters }
 
   -- a place that the pick left as it was is queued at the part's own next time
   place-same : (time x : OptionTime) (k : ℕ) → k < queuePlaces → x ≡ getD (allQueued s) k noQueued .time → sameTime x (nextTimeOf (after s time) k) ≡ true
@@ -467,11 +493,12 @@ unfolding buildOf
 fresh-fit n seed =
     let Fit : Built → Type 0 = λ x. fit (x .simulation) ≡ true in
     let c = childOf (fromSeed seed) in
-    let parts = populate (n .senders) 0 (c .parent) (n .off) noParts in
+    let parts = populate (n .senders) 0 (n .off) (noParts (c .parent)) in
     cond-elim Fit (eqb (networkStop n) 0) (buildFrom n (c .child) parts) (notBuilt (networkStop n))
     (λ t.
     let e = eqb-true (networkStop n) 0 t in
     let off = both-r (timesFit (n .on)) (timesFit (n .off)) (fit-network n e .times) in
-    let new = populate-new (n .senders) 0 (c .parent) (n .off) noParts off no-parts in
-    cond-elim Fit (eqb (parts .number) 0) _ (notBuilt (parts .number)) (λ z. fit-picked _ (unqueued-blank n (c .child) parts e (zero-words .child (fromSeed seed)) new)) (λ z. empty-fit))
+    let new = populate-new (n .senders) 0 (n .off) (noParts (c .parent)) off (no-parts (c .parent)) in
+    cond-elim Fit (eqb (parts .number) 0) _ (notBuilt (parts .number))
+    (λ z. fit-picked _ (unqueued-blank n (c .child) (backWords n (parts .root)) parts e (zero-words .child (fromSeed seed)) (back-words n (parts .root)) new)) (λ z. empty-fit))
     (λ t. empty-fit)

@@ -1,7 +1,7 @@
 -- What a simulation keeps between the steps of a tick, and that each kind of store keeps it. It carries demand 3. Assumes nothing.
 use mathlib.Core.Path.{_≡_, refl, sym, ap, subst, _∙_}
 use mathlib.Core.Bool.{Bool, true, false, _&&_, cond}
-use mathlib.Core.List.{List, [], _∷_, _++_}
+use mathlib.Core.List.{List, [], _∷_, _++_, append-nil}
 use Prim.Native.Nat.{ℕ, zero, suc, _+_, _≤_, _<_}
 use native.Mathlib.Nat.{add-zero}
 use native.Mathlib.Decide.{ℕ-discrete}
@@ -12,8 +12,10 @@ use lib.Dec.{leb, ltb, eqb}
 use lib.ListN.{length, getD, set, length-set}
 use lib.Seq.{getD-set-same, getD-set-other}
 use Rattle.quantities.specs.declared.time.Time.{Time}
-use Rattle.quantities.specs.Units.{spanOf, rateOf, amountOverRate}
 use Rattle.meters.specs.declared.meter.AverageFlowMeter.{AverageFlowMeter}
+use Rattle.link.specs.declared.packet.Waiting.{Waiting}
+use Rattle.link.specs.declared.packet.Transit.{Transit}
+use Rattle.link.specs.declared.link.Line.{Line}
 use Rattle.sender.specs.declared.lossy.LossySender.{LossySender}
 use Rattle.toggler.specs.declared.toggler.Toggler.{Toggler}
 use Rattle.toggler.specs.declared.tick_queue.Queued.{Queued}
@@ -21,11 +23,12 @@ use Rattle.remy.specs.declared.network.RemyNetwork.{RemyNetwork}
 use Rattle.remy.specs.declared.simulation.Head.{Head}
 use Rattle.remy.specs.declared.simulation.Simulation.{Simulation}
 use Rattle.remy.specs.Network.{between}
-use Rattle.remy.specs.State.{noSender, noMeter, senderAt, meterAt, senderBits, withHead, withTogglers, withQueue, withSender, withMeter}
+use Rattle.remy.specs.State.{hasBack, lineCount, valuesOf, noLine, noSender, noMeter, lineAt, senderAt, meterAt, senderBits, withHead, withTogglers, withQueue, withLine, withWaiting, withOnLine, withSender, withMeter}
 use Rattle.remy.specs.History.{PacketId, Entry, ids}
 use Rattle.remy.specs.Account.{total, ofSender, isPacket}
 use Rattle.remy.proofs.Lists.{map-append, total-append}
-use Rattle.remy.proofs.Lines.{LineKept}
+use Rattle.remy.proofs.Facts.{lines-few}
+use Rattle.remy.proofs.Lines.{LineKept, line-lists}
 
 -- ---- elements after a store: at one index, and at every index
 
@@ -52,6 +55,14 @@ same-set f d (y ∷ l) zero x e (suc i) = refl
 same-set f d (y ∷ l) (suc j) x e zero = refl
 same-set f d (y ∷ l) (suc j) x e (suc i) = same-set f d l j x e i
 
+-- a fact that the old element need not have at the index itself
+pub at-place : {A : Type 0} (P : ℕ → A → Type 0) (d : A) (l : List A) (j : ℕ) (x : A) (i : ℕ) → j < length l → ((i ≡ j → ⊥) → P i (getD l i d)) → P j x → P i (getD (set l j x) i d)
+at-place P d l j x i inside there p = by (ℕ-discrete i j)
+  where
+    by : Dec (i ≡ j) → P i (getD (set l j x) i d)
+    by (yes same) = subst (λ (k : ℕ). P k (getD (set l j x) k d)) (sym same) (subst (P j) (sym (getD-set-same l j x d inside)) p)
+    by (no other) = subst (P i) (sym (getD-set-other l j i x d other)) (there other)
+
 -- a number that is not c + 1 is at most c exactly if it is at most c + 1
 one-above : (m c : ℕ) → (m ≡ c + 1 → ⊥) → leb m c ≡ leb m (c + 1)
 one-above m c other = cases (leb m c) (leb-true m c) (leb-false m c)
@@ -66,28 +77,63 @@ one-above m c other = cases (leb m c) (leb-true m c) (leb-false m c)
 abbrev pub wasSent : RemyNetwork → ℕ → ℕ → ℕ → ℕ
 wasSent n i sent m = cond (ltb i (n .senders) && between 1 sent m) 1 0
 
--- n the network, and the admissions, starts, leaves, sends and counted packets so far
-pub record Kept (n : RemyNetwork) (admitted started left sent : List Entry) (counted : List PacketId) (s : Simulation) : Type 0 where
+-- the bits of a packet's sender
+abbrev pub sizeIn : RemyNetwork → PacketId → ℕ
+sizeIn n x = senderBits n (x .sender) .0
+
+-- line l, by its own values
+abbrev pub LineIn : RemyNetwork → ℕ → List Entry → List Entry → List Entry → Simulation → Type 0
+LineIn n l admitted started left s = LineKept (valuesOf n l) (sizeIn n) l admitted started left (s .waiting) (s .«on_line») (lineAt s l)
+
+-- n the network, and the admissions, starts and leaves of each line, the sends and the counted packets so far
+pub record Kept (n : RemyNetwork) (admitted started left : ℕ → List Entry) (sent : List Entry) (counted : List PacketId) (s : Simulation) : Type 0 where
   pub network : s .network ≡ n
+  pub lines-full : length (s .lines) ≡ 2
   pub senders-full : length (s .senders) ≡ 16
   pub meters-full : length (s .meters) ≡ 16
-  pub line : LineKept (spanOf (n .delay)) (λ x. amountOverRate (senderBits n (x .sender)) (rateOf (n .rate))) (n .limit) (λ x. senderBits n (x .sender) .0) admitted started left
-      (s .waiting) (s .line .waiting) (s .«on_line») (s .line .«on_line») (s .line .«earliest_transmit») (s .line .«buffer_contains» .0)
+  pub line : (l : ℕ) → l < lineCount n → LineIn n l (admitted l) (started l) (left l) s
   pub sends : (i : ℕ) → senderAt s i .«packets_sent» ≡ total (ofSender i) (ids sent)
   pub once : (i m : ℕ) → total (isPacket i m) (ids sent) ≡ wasSent n i (senderAt s i .«packets_sent») m
   pub meter : (i : ℕ) → i < n .senders → meterAt s i .records ≡ total (ofSender i) counted
 
--- the same lists, written otherwise
-pub kept-lists : {n : RemyNetwork} {a a' b b' c c' d d' : List Entry} {e e' : List PacketId} {s : Simulation}
-    → a ≡ a' → b ≡ b' → c ≡ c' → d ≡ d' → e ≡ e' → Kept n a b c d e s → Kept n a' b' c' d' e' s
-kept-lists {n} {a} {a'} {b} {b'} {c} {c'} {d} {d'} {e} {e'} {s} p q r t u k =
-    subst (λ (x : List Entry). Kept n x b' c' d' e' s) p
-    (subst (λ (x : List Entry). Kept n a x c' d' e' s) q
-    (subst (λ (x : List Entry). Kept n a b x d' e' s) r
-    (subst (λ (x : List Entry). Kept n a b c x e' s) t
-    (subst (λ (x : List PacketId). Kept n a b c d x s) u k))))
+-- a network has one line or two
+pub few-lines : (n : RemyNetwork) (l : ℕ) → l < lineCount n → l < 2
+few-lines n l h = let few = lines-few (hasBack (n .back)) in omega (arith, h, few)
 
-module _ {n : RemyNetwork} {admitted started left sent : List Entry} {counted : List PacketId} {s : Simulation}
+-- the same lists, written otherwise
+pub kept-lists : {n : RemyNetwork} {a a' b b' c c' : ℕ → List Entry} {d d' : List Entry} {e e' : List PacketId} {s : Simulation}
+    → ((l : ℕ) → l < lineCount n → a l ≡ a' l) → ((l : ℕ) → l < lineCount n → b l ≡ b' l) → ((l : ℕ) → l < lineCount n → c l ≡ c' l) → d ≡ d' → e ≡ e'
+    → Kept n a b c d e s → Kept n a' b' c' d' e' s
+kept-lists {n} {a} {a'} {b} {b'} {c} {c'} {d} {d'} {e} {e'} {s} p q r t u k =
+    record {
+      network = k .network;
+      lines-full = k .lines-full;
+      senders-full = k .senders-full;
+      meters-full = k .meters-full;
+      line = λ l h. line-lists (p l h) (q l h) (r l h) (k .line l h);
+      sends = subst (λ (x : List Entry). (i : ℕ) → senderAt s i .«packets_sent» ≡ total (ofSender i) (ids x)) t (k .sends);
+      once = subst (λ (x : List Entry). (i m : ℕ) → total (isPacket i m) (ids x) ≡ wasSent n i (senderAt s i .«packets_sent») m) t (k .once);
+      meter = subst (λ (x : List PacketId). (i : ℕ) → i < n .senders → meterAt s i .records ≡ total (ofSender i) x) u (k .meter);
+    }
+
+-- lists of which that of line l is longer
+abbrev pub grown : (ℕ → List Entry) → ℕ → List Entry → ℕ → List Entry
+grown f l es m = f m ++ cond (eqb m l) es []
+
+pub grown-own : (f : ℕ → List Entry) (l : ℕ) (es : List Entry) → f l ++ es ≡ grown f l es l
+grown-own f l es = rw (eq-eqb l l refl)
+
+pub grown-none : (f : ℕ → List Entry) (l m : ℕ) → grown f l [] m ≡ f m
+grown-none f l m = by (eqb m l)
+  where
+    by : (b : Bool) → f m ++ cond b [] [] ≡ f m
+    by true = append-nil (f m)
+    by false = append-nil (f m)
+
+pub grown-other : (f : ℕ → List Entry) (l : ℕ) (es : List Entry) (m : ℕ) → (m ≡ l → ⊥) → f m ≡ grown f l es m
+grown-other f l es m other = rw (ne-eqb m l other) (sym (append-nil (f m)))
+
+module _ {n : RemyNetwork} {admitted started left : ℕ → List Entry} {sent : List Entry} {counted : List PacketId} {s : Simulation}
     (k : Kept n admitted started left sent counted s) where
   -- a sender that has sent as many as before
   pub keep-sender : (i : ℕ) (x : LossySender) → x .«packets_sent» ≡ senderAt s i .«packets_sent» → Kept n admitted started left sent counted (withSender s i x)
@@ -95,11 +141,36 @@ module _ {n : RemyNetwork} {admitted started left sent : List Entry} {counted : 
       let same : (j : ℕ) → senderAt (withSender s i x) j .«packets_sent» ≡ senderAt s j .«packets_sent» = same-set (λ y. y .«packets_sent») noSender (s .senders) i x e in
       record {
         network = k .network;
+        lines-full = k .lines-full;
         senders-full = length-set (s .senders) i x ∙ k .senders-full;
         meters-full = k .meters-full;
         line = k .line;
         sends = λ j. same j ∙ k .sends j;
         once = λ j m. k .once j m ∙ ap (λ c. wasSent n j c m) (sym (same j));
+        meter = k .meter;
+      }
+
+  -- line l anew, with its packets; what is stored for it leaves the other lines as they were
+  pub keep-line : (l : ℕ) → l < lineCount n → (a b c : List Entry) (waiting : List Waiting) (moving : List Transit) (x : Line)
+      → ((m : ℕ) → (m ≡ l → ⊥) → (i j k : List Entry) (y : Line) → LineKept (valuesOf n m) (sizeIn n) m i j k (s .waiting) (s .«on_line») y → LineKept (valuesOf n m) (sizeIn n) m i j k waiting moving y)
+      → LineKept (valuesOf n l) (sizeIn n) l (admitted l ++ a) (started l ++ b) (left l ++ c) waiting moving x
+      → Kept n (grown admitted l a) (grown started l b) (grown left l c) sent counted (withLine (withOnLine (withWaiting s waiting) moving) l x)
+  keep-line l h a b c waiting moving x beside own =
+      let P : ℕ → Line → Type 0 = λ m y. m < lineCount n → LineKept (valuesOf n m) (sizeIn n) m (grown admitted l a m) (grown started l b m) (grown left l c m) waiting moving y in
+      let here : LineKept (valuesOf n l) (sizeIn n) l (grown admitted l a l) (grown started l b l) (grown left l c l) waiting moving x =
+      line-lists (grown-own admitted l a) (grown-own started l b) (grown-own left l c) own in
+      record {
+        network = k .network;
+        lines-full = length-set (s .lines) l x ∙ k .lines-full;
+        senders-full = k .senders-full;
+        meters-full = k .meters-full;
+        line = λ m g.
+            at-place P noLine (s .lines) l x m (let full = k .lines-full in let few = few-lines n l h in omega (arith, full, few))
+            (λ other there. beside m other (grown admitted l a m) (grown started l b m) (grown left l c m) (lineAt s m)
+            (line-lists (grown-other admitted l a m other) (grown-other started l b m other) (grown-other left l c m other) (k .line m there)))
+            (λ there. here) g;
+        sends = k .sends;
+        once = k .once;
         meter = k .meter;
       }
 
@@ -109,6 +180,7 @@ module _ {n : RemyNetwork} {admitted started left sent : List Entry} {counted : 
   keep-unread head togglers queue =
       record {
         network = k .network;
+        lines-full = k .lines-full;
         senders-full = k .senders-full;
         meters-full = k .meters-full;
         line = k .line;
@@ -122,6 +194,7 @@ module _ {n : RemyNetwork} {admitted started left sent : List Entry} {counted : 
   keep-meter i x e =
       record {
         network = k .network;
+        lines-full = k .lines-full;
         senders-full = k .senders-full;
         meters-full = length-set (s .meters) i x ∙ k .meters-full;
         line = k .line;
@@ -136,6 +209,7 @@ module _ {n : RemyNetwork} {admitted started left sent : List Entry} {counted : 
   count-meter i x p h few own e =
       record {
         network = k .network;
+        lines-full = k .lines-full;
         senders-full = k .senders-full;
         meters-full = length-set (s .meters) i x ∙ k .meters-full;
         line = k .line;
@@ -168,6 +242,7 @@ module _ {n : RemyNetwork} {admitted started left sent : List Entry} {counted : 
   count-sent i x t h few e =
       record {
         network = k .network;
+        lines-full = k .lines-full;
         senders-full = length-set (s .senders) i x ∙ k .senders-full;
         meters-full = k .meters-full;
         line = k .line;

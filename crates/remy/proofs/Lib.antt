@@ -1,6 +1,7 @@
 -- Examples that are computed, laws of the definitions, and the proof of demand 3.
 pub mod Opened
 pub mod Examples
+pub mod Returned
 pub mod Stops
 pub mod Lists
 pub mod Lines

@@ -6,17 +6,18 @@ use mathlib.Core.List.{List, [], _∷_, _++_, map, List·Memᴰ, List·Memᴰ·h
 use Prim.Native.Nat.{ℕ, zero, suc, _+_, _%_}
 use native.Mathlib.Nat.{zero-add, add-assoc}
 use native.Mathlib.Omega.{arith}
+use lib.Dec.{eqb}
 use lib.ListN.{length, getD, take}
 use Rattle.quantities.specs.declared.time.Time.{Time}
 use Rattle.link.specs.declared.packet.Waiting.{Waiting}
 use Rattle.link.specs.declared.ring.Ring.{Ring}
-use Rattle.link.specs.Ring.{places, itemsFrom, items}
+use Rattle.link.specs.Ring.{places, slotOf, itemsFrom, items}
 use Rattle.remy.specs.declared.simulation.Mark.{Mark}
 use Rattle.remy.specs.declared.simulation.Name.{Name}
 use Rattle.remy.specs.declared.simulation.Name.the-variants as Name
 use Rattle.remy.specs.declared.simulation.TickRecord.{TickRecord}
 use Rattle.remy.specs.State.{totalBits}
-use Rattle.remy.specs.History.{PacketId, Entry, ids, entryIf, entries, starts}
+use Rattle.remy.specs.History.{PacketId, Entry, ids, entryIf, entries, startsIn}
 use Rattle.remy.specs.Account.{total}
 
 -- ---- map, length and take
@@ -46,9 +47,11 @@ entries-append f [] k = refl
 entries-append f (r ∷ h) k =
     ap (entryIf (f (r .mark)) (r .time) (r .packet)) (entries-append f h k) ∙ entry-append (f (r .mark)) (r .time) (r .packet) (entries f h) (entries f k)
 
-pub starts-append : (h k : List TickRecord) → starts (h ++ k) ≡ starts h ++ starts k
-starts-append [] k = refl
-starts-append (r ∷ h) k = ap (entryIf true (r .time) (r .started)) (starts-append h k) ∙ entry-append true (r .time) (r .started) (starts h) (starts k)
+pub starts-append : (part : ℕ) (h k : List TickRecord) → startsIn part (h ++ k) ≡ startsIn part h ++ startsIn part k
+starts-append part [] k = refl
+starts-append part (r ∷ h) k =
+    let here = eqb (r .part) part in
+    ap (entryIf here (r .time) (r .started)) (starts-append part h k) ∙ entry-append here (r .time) (r .started) (startsIn part h) (startsIn part k)
 
 -- ---- sums of weights
 
@@ -108,12 +111,12 @@ all-unmapped P f [] a = tt
 all-unmapped P f (x ∷ xs) a = (a .0, all-unmapped P f xs (a .1))
 
 -- of a ring's items, where it holds at every index
-pub items-all : {A : Type 0} (P : A → Type 0) (d : A) (slots : List A) (r : Ring) → ((i : ℕ) → P (getD slots i d)) → All P (items d slots r)
-items-all P d slots r f = from (r .start) (r .count)
+pub items-all : {A : Type 0} (P : A → Type 0) (d : A) (slots : List A) (l : ℕ) (r : Ring) → ((i : ℕ) → P (getD slots i d)) → All P (items d slots l r)
+items-all P d slots l r f = from (r .start) (r .count)
   where
-    from : (at n : ℕ) → All P (itemsFrom d slots at n)
+    from : (at n : ℕ) → All P (itemsFrom d slots l at n)
     from at zero = tt
-    from at (suc n) = (f (at % places), from (at + 1) n)
+    from at (suc n) = (f (slotOf l (at % places)), from (at + 1) n)
 
 -- by membership
 module _ {A : Type 0} (P : A → Type 0) where

@@ -3,7 +3,7 @@ use mathlib.Core.Path.{_≡_, refl, sym, ap, subst, _∙_}
 use mathlib.Core.Logic.{_⊎_, inl, inr, ⊎-elim}
 use mathlib.Core.Bool.{Bool, true, false, _&&_, _||_, cond, false≢true, or-true}
 use mathlib.Core.List.{List, [], _∷_, _++_, List·Memᴰ, List·Memᴰ·head, List·Memᴰ·tail, List·Memᴰ·not-nil, List·Memᴰ·cases-cons}
-use Prim.Native.Nat.{ℕ, _+_, _<_}
+use Prim.Native.Nat.{ℕ, zero, suc, _+_, _<_}
 use native.Mathlib.Decide.{ℕ-discrete}
 use native.Mathlib.Omega.{arith}
 use borrow.Author.Tests.{eq-eqb, ne-eqb}
@@ -39,18 +39,18 @@ use Rattle.remy.specs.declared.simulation.Name.{Name}
 use Rattle.remy.specs.declared.simulation.Name.the-variants as Name
 use Rattle.remy.specs.declared.simulation.TickRecord.{TickRecord}
 use Rattle.remy.specs.declared.simulation.Ticked.{Ticked}
-use Rattle.remy.specs.State.{Role, link, sender, toggler, nobody, senderPart, roleOf, senderAt, togglerAt, firstOf, frontOf, packetBits, withSender}
-use Rattle.remy.specs.Queue.{requeue}
-use Rattle.remy.specs.Tick.{named, recordAt, marked, begunName, leftRecord, leftMessages, arrives, Acted, stopped, enabledSender, linkWith, linkActs, timerWith, sendWith, senderWith, senderActs, togglerWith, togglerActs, actsOf, Outcome, moves, stops, heardMark, switchMark, deliver, deliverAll, pickAgain, outcomeWith, outcomeOf, ticked, tickOf}
-use Rattle.remy.specs.History.{Call, tick, called, noted, history, PacketId, Entry, ids, entryIf, entries, isS, isF}
+use Rattle.remy.specs.State.{lineCount, valuesOf, Role, link, bouncer, sender, toggler, nobody, senderPart, roleIn, lineAt, senderAt, togglerAt, firstOf, frontOf, packetBits, withSender}
+use Rattle.remy.specs.Queue.{partOf, requeue}
+use Rattle.remy.specs.Tick.{named, recordAt, marked, begunName, lostMark, leftRecord, toBouncer, leftMessages, Message, arrives, bounces, returns, Acted, stopped, enabledSender, linkWith, linkActs, timerWith, sendWith, senderWith, senderActs, togglerWith, togglerActs, actsOf, Outcome, moves, stops, heardMark, switchMark, deliver, deliverAll, pickAgain, outcomeWith, outcomeOf, ticked, tickOf}
+use Rattle.remy.specs.History.{Call, tick, called, noted, history, PacketId, Entry, ids, entryIf, entries, isS, isF, leavesBy}
 use Rattle.remy.specs.Account.{total, ofSender}
-use Rattle.remy.specs.Names.{isSend, isLeave, NamesPacket, WellNamed, MarksName, recordsWith, ownMark, NamesCountMarks}
+use Rattle.remy.specs.Names.{isSend, isLeave, NamesPacket, OnLine, WellNamed, MarksName, recordsWith, ownMark, NamesCountMarks}
 use Rattle.remy.proofs.Facts.{FitState}
 use Rattle.remy.proofs.Kept.{Kept}
 use Rattle.remy.proofs.Front.{first-sender, front-sender}
 use Rattle.remy.proofs.Steps.{cond-elim}
 use Rattle.remy.proofs.Roles.{Real, role-at}
-use Rattle.remy.proofs.Outcomes.{OnMoves, on-stopped}
+use Rattle.remy.proofs.Outcomes.{OnMoves, on-stopped, lost-on, back-on, passed-on, bouncing}
 use Rattle.remy.proofs.Account.{KeptAt, tick-elim, call-keeps, fresh-keeps, either, demand3}
 
 -- ---- a record, by its mark
@@ -59,15 +59,15 @@ module _ (n : RemyNetwork) where
   abbrev packet-named : (p : Packet) → p .sender < n .senders → NamesPacket n (named p)
   packet-named p h = record { sender = p .sender; seq = p .seq; same = refl; inside = h }
 
-  -- no start is named, or one in the link's record
+  -- no start is named, or one in a link's record
   abbrev Begins : ℕ → Name → Type 0
-  Begins part started = (started ≡ Name.None) ⊎ (NamesPacket n started × (part ≡ 0))
+  Begins part started = (started ≡ Name.None) ⊎ (NamesPacket n started × OnLine n part)
 
   module _ (r : TickRecord) (starts : Begins (r .part) (r .started)) where
     send-named : isSend (r .mark) ≡ true → isLeave (r .mark) ≡ false → (p : NamesPacket n (r .packet)) × (r .part ≡ senderPart (p .sender)) → WellNamed n r
     send-named e f p = record { sent = λ g. p; left = λ g. absurd (false≢true (sym f ∙ g)); other = λ g h. absurd (false≢true (sym g ∙ e)); starts = starts }
 
-    leave-named : isSend (r .mark) ≡ false → isLeave (r .mark) ≡ true → NamesPacket n (r .packet) → r .part ≡ 0 → WellNamed n r
+    leave-named : isSend (r .mark) ≡ false → isLeave (r .mark) ≡ true → NamesPacket n (r .packet) → (o : OnLine n (r .part)) × (leavesBy n (o .line) (r .mark) ≡ true) → WellNamed n r
     leave-named e f p q = record { sent = λ g. absurd (false≢true (sym e ∙ g)); left = λ g. (p, q); other = λ g h. absurd (false≢true (sym h ∙ f)); starts = starts }
 
     other-named : isSend (r .mark) ≡ false → isLeave (r .mark) ≡ false → r .packet ≡ Name.None → WellNamed n r
@@ -92,31 +92,64 @@ module _ (s : Simulation) where
   LeftInside (Left.Lost p) = p .sender < s .network .senders
   LeftInside (Left.Out p) = p .sender < s .network .senders
 
-  module _ (started : Name) (starts : Begins (s .network) 0 started) where
-    back-named : (p : Packet) → p .sender < s .network .senders → (h : Heard) → WellNamed (s .network) (marked (recordAt s link Mark.None (named p) started) (heardMark h))
-    back-named p own Heard.Ignored = leave-named (s .network) _ starts refl refl (packet-named (s .network) p own) refl
-    back-named p own Heard.Old = leave-named (s .network) _ starts refl refl (packet-named (s .network) p own) refl
-    back-named p own Heard.Counted = leave-named (s .network) _ starts refl refl (packet-named (s .network) p own) refl
+  module _ (l : ℕ) (there : l < lineCount (s .network)) where
+    -- the link's own line
+    own-line : OnLine (s .network) (partOf (s .network .senders) (link l))
+    own-line = record { line = l; there = there; same = refl }
 
-    left-named : (left : Left) (m : Simulation) → LeftInside left → OnMoves Good (pickAgain (deliverAll (moves (leftRecord s left started) m) (leftMessages left)))
+    module _ (started : Name) (starts : Begins (s .network) (partOf (s .network .senders) (link l)) started) (p : Packet) (own : p .sender < s .network .senders) where
+      -- a record of this link by which a packet leaves its line
+      gone-named : (mark : Mark) → isSend mark ≡ false → isLeave mark ≡ true → leavesBy (s .network) l mark ≡ true → WellNamed (s .network) (recordAt s (link l) mark (named p) started)
+      unfolding own-line
+      gone-named mark a b c = leave-named (s .network) _ starts a b (packet-named (s .network) p own) (own-line, c)
+
+      back-named : toBouncer (s .network) l ≡ false → (h : Heard) → WellNamed (s .network) (recordAt s (link l) (heardMark h) (named p) started)
+      back-named e Heard.Ignored = gone-named Mark.Ignored refl refl (back-on (s .network) Mark.Ignored refl refl refl refl refl l l there there e ∙ eq-eqb l l refl)
+      back-named e Heard.Old = gone-named Mark.Old refl refl (back-on (s .network) Mark.Old refl refl refl refl refl l l there there e ∙ eq-eqb l l refl)
+      back-named e Heard.Counted = gone-named Mark.Counted refl refl (back-on (s .network) Mark.Counted refl refl refl refl refl l l there there e ∙ eq-eqb l l refl)
+
+      lost-named : (j : ℕ) → leavesBy (s .network) l (lostMark j) ≡ true → WellNamed (s .network) (recordAt s (link l) (lostMark j) (named p) started)
+      lost-named zero e = gone-named Mark.Lost refl refl e
+      lost-named (suc j) e = gone-named Mark.LostBack refl refl e
+
+      -- at the second line: admitted, dropped full, or refused
+      bounced-named : toBouncer (s .network) l ≡ true → (m : Simulation) → OnMoves Good (pickAgain (deliver (recordAt s (link l) Mark.None (named p) started) m (arrives 1 p)))
+      unfolding deliver
+      bounced-named e m =
+          let a = receiveOf (valuesOf (m .network) 1 .limit) (lineAt m 1) (packetBits (m .network) p) in
+          let first = bouncing (s .network) l e in
+          let leaving : (mark : Mark) → leavesBy (s .network) 0 mark ≡ true → leavesBy (s .network) l mark ≡ true = λ mark q. subst (λ (j : ℕ). leavesBy (s .network) j mark ≡ true) (sym (first .0)) q in
+          cond-elim (λ (o : Outcome). OnMoves Good (pickAgain o)) (eqb (a .number) 0) _ (stops (a .number))
+          (λ z. cond-elim (λ (o : Outcome). OnMoves Good (pickAgain o)) (a .admitted) _ _
+          (λ admitted. gone-named Mark.Passed refl refl (leaving Mark.Passed (passed-on (s .network) Mark.Passed refl refl refl refl (first .1) 0)))
+          (λ dropped. gone-named Mark.FullBack refl refl (leaving Mark.FullBack (passed-on (s .network) Mark.FullBack refl refl refl refl (first .1) 0))))
+          (λ z. tt)
+
+    left-named : (started : Name) → Begins (s .network) (partOf (s .network .senders) (link l)) started → (left : Left) (m : Simulation) → LeftInside left
+        → OnMoves Good (pickAgain (deliverAll (moves (leftRecord s l left started) m) (leftMessages (s .network) l left)))
     unfolding deliver
-    left-named Left.Nobody m own = other-named (s .network) _ starts refl refl refl
-    left-named (Left.Lost p) m own = leave-named (s .network) _ starts refl refl (packet-named (s .network) p own) refl
-    left-named (Left.Out p) m own = back-named p own (returnedOf (m .network .policy) (senderAt m (p .sender)) p .heard)
+    left-named started starts Left.Nobody m own = other-named (s .network) _ starts refl refl refl
+    left-named started starts (Left.Lost p) m own = lost-named started starts p own l (lost-on (s .network) l l there there ∙ eq-eqb l l refl)
+    left-named started starts (Left.Out p) m own =
+        let r = recordAt s (link l) Mark.None (named p) started in
+        cond-elim (λ (x : Message). OnMoves Good (pickAgain (deliverAll (moves r m) (x ∷ [])))) (toBouncer (s .network) l) (bounces p) (returns p)
+        (λ e. bounced-named started starts p own e (requeue m bouncer))
+        (λ e. back-named started starts p own e (returnedOf (m .network .policy) (senderAt m (p .sender)) p .heard))
 
-  link-with : (left : Left) (l : Line) (t : Transmitted) → LeftInside left → Begins (s .network) 0 (begunName (t .begun)) → OnMoves Good (outcomeWith link (linkWith s (record { left = left; line = l }) t))
-  link-with left l t own starts =
-      cond-elim (λ (a : Acted). OnMoves Good (outcomeWith link a)) (eqb (t .number) 0) _ (stopped s (t .number))
-      (λ z. left-named (begunName (t .begun)) starts left _ own)
-      (on-stopped Good link s (t .number))
+    link-with : (left : Left) (x : Line) (t : Transmitted) → LeftInside left → Begins (s .network) (partOf (s .network .senders) (link l)) (begunName (t .begun))
+        → OnMoves Good (outcomeWith (link l) (linkWith s l (record { left = left; line = x }) t))
+    link-with left x t own starts =
+        cond-elim (λ (a : Acted). OnMoves Good (outcomeWith (link l) a)) (eqb (t .number) 0) _ (stopped s (t .number))
+        (λ z. left-named (begunName (t .begun)) starts left _ own)
+        (on-stopped Good (link l) s (t .number))
 
   -- ---- a sender's
 
   module _ (i : ℕ) (inside : i < s .network .senders) where
-    arrived-named : (p : Packet) → p .sender ≡ i → (m : Simulation) → OnMoves Good (pickAgain (deliver (recordAt s (sender i) Mark.None (named p) Name.None) m (arrives p)))
+    arrived-named : (p : Packet) → p .sender ≡ i → (m : Simulation) → OnMoves Good (pickAgain (deliver (recordAt s (sender i) Mark.None (named p) Name.None) m (arrives 0 p)))
     unfolding deliver
     arrived-named p own m =
-        let a = receiveOf (m .network .limit) (m .line) (packetBits (m .network) p) in
+        let a = receiveOf (valuesOf (m .network) 0 .limit) (lineAt m 0) (packetBits (m .network) p) in
         let names : (x : NamesPacket (s .network) (named p)) × (senderPart i ≡ senderPart (x .sender)) =
         (packet-named (s .network) p (subst (λ (j : ℕ). j < s .network .senders) (sym own) inside), ap senderPart (sym own)) in
         cond-elim (λ (o : Outcome). OnMoves Good (pickAgain o)) (eqb (a .number) 0) _ (stops (a .number))
@@ -155,46 +188,52 @@ module _ (s : Simulation) where
         (λ z. switched-named (t .toggler .enabled))
         (on-stopped Good (toggler i) s (t .number))
 
--- what starts, on a line l
-abbrev transmitted : Simulation → Line → Transmitted
-transmitted s l = tryTransmit l (s .head .clock) (firstOf s) (spanOf (s .network .delay)) (rateOf (s .network .rate))
+-- what starts on line l, where it is x
+abbrev transmitted : Simulation → ℕ → Line → Transmitted
+transmitted s l x = tryTransmit x (s .head .clock) (firstOf s l) (spanOf (valuesOf (s .network) l .delay)) (rateOf (valuesOf (s .network) l .rate))
 
-module _ {adm sts lvs snd : List Entry} {cnt : List PacketId} {s : Simulation} (f : FitState s) (k : Kept (s .network) adm sts lvs snd cnt s) where
-  -- a packet that starts is of a sender of the network
-  start-named : (l : Line) → l .waiting ≡ s .line .waiting → Begins (s .network) 0 (begunName (transmitted s l .begun))
-  unfolding tryTransmit
-  start-named l same =
-      let F : Transmitted → Type 0 = λ t. Begins (s .network) 0 (begunName (t .begun)) in
-      cond-elim F (isFree l (s .head .clock)) _ (notStarted l 0)
-      (λ e. cond-elim F (leb places (l .«on_line» .count)) (notStarted l 13) _
-      (λ full. inl refl)
-      (λ room. inr (packet-named (s .network) (firstOf s .packet) (first-sender s f (subst (λ w. 0 < w .count) same (free-count l (s .head .clock) e))), refl)))
-      (λ e. inl refl)
+module _ {adm sts lvs : ℕ → List Entry} {snd : List Entry} {cnt : List PacketId} {s : Simulation} (f : FitState s) (k : Kept (s .network) adm sts lvs snd cnt s) where
+  module _ (l : ℕ) (there : l < lineCount (s .network)) where
+    -- a packet that starts is of a sender of the network
+    start-named : (x : Line) → x .waiting ≡ lineAt s l .waiting → Begins (s .network) (partOf (s .network .senders) (link l)) (begunName (transmitted s l x .begun))
+    unfolding tryTransmit
+    start-named x same =
+        let F : Transmitted → Type 0 = λ t. Begins (s .network) (partOf (s .network .senders) (link l)) (begunName (t .begun)) in
+        cond-elim F (isFree x (s .head .clock)) _ (notStarted x 0)
+        (λ e. cond-elim F (leb places (x .«on_line» .count)) (notStarted x 13) _
+        (λ full. inl refl)
+        (λ room. inr (
+          packet-named (s .network) (firstOf s l .packet) (first-sender s f l there (subst (λ w. 0 < w .count) same (free-count x (s .head .clock) e))),
+          record { line = l; there = there; same = refl },
+        )))
+        (λ e. inl refl)
 
-  link-turn : OnMoves (Good s) (outcomeOf s link)
-  unfolding outcomeOf actsOf linkActs tryDeliver
-  link-turn =
-      let gone = departed (s .line) in
-      let p = frontOf s .packet in
-      let F : Delivered → Type 0 = λ d. OnMoves (Good s) (outcomeWith link (linkWith s d (transmitted s (d .line)))) in
-      cond-elim F (isDue (s .line) (s .head .clock) (frontOf s)) _ (record { left = Left.Nobody; line = s .line })
-      (λ e.
-      let own : p .sender < s .network .senders = front-sender s f (k .line .transit) (due-count (s .line) (s .head .clock) (frontOf s) e) in
-      cond-elim F (lt (unitOf (s .line .rng) .value) (s .network .loss)) (record { left = Left.Lost p; line = gone }) (record { left = Left.Out p; line = gone })
-      (λ lost. link-with s (Left.Lost p) gone (transmitted s gone) own (start-named gone refl))
-      (λ out. link-with s (Left.Out p) gone (transmitted s gone) own (start-named gone refl)))
-      (λ e. link-with s Left.Nobody (s .line) (transmitted s (s .line)) tt (start-named (s .line) refl))
+    link-turn : OnMoves (Good s) (outcomeOf s (link l))
+    unfolding outcomeOf actsOf linkActs tryDeliver
+    link-turn =
+        let x = lineAt s l in
+        let gone = departed x in
+        let p = frontOf s l .packet in
+        let F : Delivered → Type 0 = λ d. OnMoves (Good s) (outcomeWith (link l) (linkWith s l d (transmitted s l (d .line)))) in
+        cond-elim F (isDue x (s .head .clock) (frontOf s l)) _ (record { left = Left.Nobody; line = x })
+        (λ e.
+        let own : p .sender < s .network .senders = front-sender s f l there (k .line l there .transit) (due-count x (s .head .clock) (frontOf s l) e) in
+        cond-elim F (lt (unitOf (x .rng) .value) (valuesOf (s .network) l .loss)) (record { left = Left.Lost p; line = gone }) (record { left = Left.Out p; line = gone })
+        (λ lost. link-with s l there (Left.Lost p) gone (transmitted s l gone) own (start-named gone refl))
+        (λ out. link-with s l there (Left.Out p) gone (transmitted s l gone) own (start-named gone refl)))
+        (λ e. link-with s l there Left.Nobody x (transmitted s l x) tt (start-named x refl))
 
-  turn-of : (role : Role) → Real (s .network .senders) role → OnMoves (Good s) (outcomeOf s role)
+  turn-of : (role : Role) → Real (s .network) role → OnMoves (Good s) (outcomeOf s role)
   unfolding outcomeOf actsOf senderActs togglerActs
-  turn-of link real = link-turn
+  turn-of (link l) real = link-turn l real
+  turn-of bouncer real = tt
   turn-of (sender i) real = sender-turn s i real (senderAt s i .state)
   turn-of (toggler i) real = toggler-turn s i (toggleOf (togglerAt s i) (s .head .clock) (s .network .on) (s .network .off))
   turn-of nobody real = absurd real
 
-  turn-named : (j : ℕ) → OnMoves (Good s) (outcomeOf s (roleOf (s .network .senders) j))
+  turn-named : (j : ℕ) → OnMoves (Good s) (outcomeOf s (roleIn (s .network) j))
   unfolding outcomeOf actsOf
-  turn-named j = role-at (λ (role : Role). OnMoves (Good s) (outcomeOf s role)) (s .network .senders) j (λ role real part. turn-of role real) tt
+  turn-named j = role-at (λ (role : Role). OnMoves (Good s) (outcomeOf s role)) (s .network) j (λ role real part. turn-of role real) tt
 
 -- ---- every list of calls
 
@@ -210,7 +249,7 @@ named-more n r h w all x m = elim (List·Memᴰ·cases-cons m) [
 tick-named : (h rest : List TickRecord) (s : Simulation) → KeptAt (s .network) h s → AllNamed (s .network) rest → AllNamed (s .network) (noted (tickOf s) rest)
 tick-named h rest s k all =
     tick-elim (λ (t : Ticked). AllNamed (s .network) (noted t rest)) s (λ number. all)
-    (λ f early j. moved (outcomeOf s (roleOf (s .network .senders) j)) (turn-named f (k .lists) j))
+    (λ f early j. moved (outcomeOf s (roleIn (s .network) j)) (turn-named f (k .lists) j))
   where
     moved : (o : Outcome) → OnMoves (Good s) o → AllNamed (s .network) (noted (ticked s o) rest)
     moved (stops number) w = all
@@ -227,7 +266,7 @@ calls-named n (c ∷ cs) h s k =
     let t = called c s in
     call-named n c h (history cs (t .simulation)) s k (calls-named n cs (h ++ noted t []) (t .simulation) (call-keeps n c h s k))
 
--- Every record with S, F, L, C, O or I names a packet of a sender of the network, and with S or F one of its own part's sender.
+-- Every record with S, F, L, C, O, I, P, Q or N names a packet of a sender of the network, and with S or F one of its own part's sender.
 pub marks-name : MarksName
 marks-name n s fresh cs = calls-named n cs [] s (fresh-keeps n s fresh)
 

@@ -1,7 +1,7 @@
 -- What an accepted network has: each range by name. Assumes nothing.
 use mathlib.Core.Path.{_≡_, refl}
 use mathlib.Core.Bool.{Bool, true, false, _&&_, cond}
-use Prim.Native.Nat.{ℕ, suc, _≤_, _<_}
+use Prim.Native.Nat.{ℕ, zero, suc, _≤_, _<_}
 use native.Mathlib.Omega.{arith}
 use borrow.Author.Tests.{leb-true}
 use lib.Dec.{leb}
@@ -12,21 +12,22 @@ use Rattle.quantities.specs.Doubles.{zeroF, power}
 use Rattle.quantities.specs.Units.{rateOf, amountOverRate}
 use Rattle.quantities.proofs.Order.{le-trans}
 use Rattle.quantities.proofs.Ranges.{within, within-wider, test→within}
+use Rattle.link.specs.declared.link.LineValues.{LineValues}
 use Rattle.link.proofs.NewTimes as Link
 use Rattle.sender.specs.declared.lossy.Policy.the-variants.{Timed}
+use Rattle.remy.specs.declared.network.ReturnLine.{ReturnLine}
+use Rattle.remy.specs.declared.network.ReturnLine.the-variants as Back
 use Rattle.remy.specs.declared.network.RemyNetwork.{RemyNetwork}
-use Rattle.remy.specs.Network.{upTo, between, windowFit, gapFit, delayFit, rateFit, lossFit, limitFit, sizesFit, timesFit, policyFit, networkStop}
-use Rattle.remy.specs.State.{senderBits}
-use Rattle.remy.proofs.Facts.{both-l, both-r, range-low, range-high, between-low, between-high, upTo-at}
+use Rattle.remy.specs.Network.{upTo, between, windowFit, gapFit, delayFit, rateFit, lossFit, limitFit, sizesFit, timesFit, policyFit, valuesFit, backFit, networkStop}
+use Rattle.remy.specs.State.{backValues, valuesOf, senderBits}
+use Rattle.remy.proofs.Facts.{both-l, both-r, both-i, range-low, range-high, between-low, between-high, upTo-at}
 
 pub record FitNetwork (n : RemyNetwork) : Type 0 where
-  pub delay : delayFit (n .delay) ≡ true
-  pub rate : rateFit (n .rate) ≡ true
-  pub loss : lossFit (n .loss) ≡ true
-  pub limit : limitFit (n .limit) ≡ true
+  pub line : valuesFit (n .line) ≡ true
   pub sizes : sizesFit (n .bits) (n .senders) ≡ true
   pub times : (timesFit (n .on) && timesFit (n .off)) ≡ true
   pub policy : policyFit (n .policy) ≡ true
+  pub back : backFit (n .back) ≡ true
 
 -- a test that failed would have given its number
 passed : (b : Bool) (rest k : ℕ) → cond b rest (suc k) ≡ 0 → b ≡ true
@@ -40,21 +41,51 @@ next false rest k e = let no : ⊥ = omega arith in absurd no
 pub fit-network : (n : RemyNetwork) → networkStop n ≡ 0 → FitNetwork n
 unfolding networkStop
 fit-network n e1 =
-    let e2 = next (delayFit (n .delay)) _ 0 e1 in
-    let e3 = next (rateFit (n .rate)) _ 1 e2 in
-    let e4 = next (lossFit (n .loss)) _ 2 e3 in
-    let e5 = next (limitFit (n .limit)) _ 3 e4 in
+    let v = n .line in
+    let e2 = next (delayFit (v .delay)) _ 0 e1 in
+    let e3 = next (rateFit (v .rate)) _ 1 e2 in
+    let e4 = next (lossFit (v .loss)) _ 2 e3 in
+    let e5 = next (limitFit (v .limit)) _ 3 e4 in
     let e6 = next (sizesFit (n .bits) (n .senders)) _ 4 e5 in
     let e7 = next (timesFit (n .on) && timesFit (n .off)) _ 5 e6 in
+    let e8 = next (policyFit (n .policy)) _ 6 e7 in
     record {
-      delay = passed (delayFit (n .delay)) _ 0 e1;
-      rate = passed (rateFit (n .rate)) _ 1 e2;
-      loss = passed (lossFit (n .loss)) _ 2 e3;
-      limit = passed (limitFit (n .limit)) _ 3 e4;
+      line =
+          both-i (delayFit (v .delay) && rateFit (v .rate) && lossFit (v .loss)) (limitFit (v .limit))
+          (both-i (delayFit (v .delay) && rateFit (v .rate)) (lossFit (v .loss))
+          (both-i (delayFit (v .delay)) (rateFit (v .rate)) (passed (delayFit (v .delay)) _ 0 e1) (passed (rateFit (v .rate)) _ 1 e2))
+          (passed (lossFit (v .loss)) _ 2 e3))
+          (passed (limitFit (v .limit)) _ 3 e4);
       sizes = passed (sizesFit (n .bits) (n .senders)) _ 4 e5;
       times = passed (timesFit (n .on) && timesFit (n .off)) _ 5 e6;
       policy = passed (policyFit (n .policy)) _ 6 e7;
+      back = passed (backFit (n .back)) _ 19 e8;
     }
+
+-- ---- the ranges of a line
+
+back-fit : (first : LineValues) (back : ReturnLine) → valuesFit first ≡ true → backFit back ≡ true → valuesFit (backValues first back) ≡ true
+back-fit first Back.None f b = f
+back-fit first (Back.Line v) f b = b
+
+module _ {n : RemyNetwork} (f : FitNetwork n) where
+  -- each line's values; where there is no second line, its values are the first's
+  pub line-fit : (l : ℕ) → valuesFit (valuesOf n l) ≡ true
+  line-fit zero = f .line
+  line-fit (suc l) = back-fit (n .line) (n .back) (f .line) (f .back)
+
+  module _ (l : ℕ) where
+    delay-and-rate : (delayFit (valuesOf n l .delay) && rateFit (valuesOf n l .rate)) ≡ true
+    delay-and-rate =
+        let v = valuesOf n l in
+        let two = delayFit (v .delay) && rateFit (v .rate) in
+        both-l two (lossFit (v .loss)) (both-l (two && lossFit (v .loss)) (limitFit (v .limit)) (line-fit l))
+
+    delay-fit : delayFit (valuesOf n l .delay) ≡ true
+    delay-fit = both-l (delayFit (valuesOf n l .delay)) (rateFit (valuesOf n l .rate)) delay-and-rate
+
+    rate-fit : rateFit (valuesOf n l .rate) ≡ true
+    rate-fit = both-r (delayFit (valuesOf n l .delay)) (rateFit (valuesOf n l .rate)) delay-and-rate
 
 -- a delay, a gap and a draw are at most 2^20
 pub far : (x : Float) → within x (power 20) → within x (power 40)
@@ -77,12 +108,13 @@ module _ {n : RemyNetwork} (f : FitNetwork n) where
     few-bits = between-high 1 16777216 (senderBits n i .0) bits-between
 
   -- ---- the spans that a tick adds to the clock
-  pub delay-within : within (n .delay) (power 40)
-  delay-within = far (n .delay) (test→within (power 20) (n .delay) (f .delay))
+  pub delay-within : (l : ℕ) → within (valuesOf n l .delay) (power 40)
+  delay-within l = far (valuesOf n l .delay) (test→within (power 20) (valuesOf n l .delay) (delay-fit f l))
 
-  pub sending-within : (i : ℕ) → i < n .senders → within (amountOverRate (senderBits n i) (rateOf (n .rate)) .0) (power 40)
-  sending-within i h =
-      Link.start-within (senderBits n i) (rateOf (n .rate)) (some-bits i h) (few-bits i h) (range-low (power 0) (power 50) (n .rate) (f .rate)) (range-high (power 0) (power 50) (n .rate) (f .rate))
+  pub sending-within : (l i : ℕ) → i < n .senders → within (amountOverRate (senderBits n i) (rateOf (valuesOf n l .rate)) .0) (power 40)
+  sending-within l i h =
+      let rate = valuesOf n l .rate in
+      Link.start-within (senderBits n i) (rateOf rate) (some-bits i h) (few-bits i h) (range-low (power 0) (power 50) rate (rate-fit f l)) (range-high (power 0) (power 50) rate (rate-fit f l))
 
 pub gap-within : (most : ℕ) (gap : Float) → policyFit (Timed most gap) ≡ true → within gap (power 40)
 gap-within most gap f =

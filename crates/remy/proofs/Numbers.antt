@@ -32,10 +32,10 @@ use Rattle.remy.specs.declared.simulation.Simulation.{Simulation}
 use Rattle.remy.specs.declared.simulation.Ticked.{Ticked}
 use Rattle.remy.specs.declared.simulation.Ran.{Ran}
 use Rattle.remy.specs.declared.simulation.TickRecord.{TickRecord}
-use Rattle.remy.specs.State.{Role, link, sender, toggler, nobody, roleOf, senderAt, togglerAt, firstOf, frontOf, packetBits}
+use Rattle.remy.specs.State.{valuesOf, Role, link, bouncer, sender, toggler, nobody, roleIn, lineAt, senderAt, togglerAt, firstOf, frontOf, packetBits}
 use Rattle.remy.specs.Queue.{requeue}
 use Rattle.remy.specs.Fit.{fit}
-use Rattle.remy.specs.Tick.{Message, arrives, returns, switches, Acted, stopped, linkActs, senderWith, senderActs, togglerActs, actsOf, Outcome, moves, stops, deliver, deliverAll, pickAgain, outcomeWith, outcomeOf, unmoved, ticked, tickNext, tickOf}
+use Rattle.remy.specs.Tick.{Message, arrives, bounces, returns, switches, Acted, stopped, linkActs, senderWith, senderActs, togglerActs, actsOf, Outcome, moves, stops, deliver, deliverEach, answers, deliverAll, pickAgain, outcomeWith, outcomeOf, unmoved, ticked, tickNext, tickOf}
 use Rattle.remy.specs.Run.{runOf, TickNumber}
 use Rattle.remy.proofs.Steps.{cond-elim}
 
@@ -45,15 +45,16 @@ use Rattle.remy.proofs.Steps.{cond-elim}
 or-stopped : (s : Simulation) (k : ℕ) (a : Acted) → a .number ≡ 0 → TickNumber k → TickNumber (cond (eqb k 0) a (stopped s k) .number)
 or-stopped s k a z p = cond-elim (λ (x : Acted). TickNumber (x .number)) (eqb k 0) a (stopped s k) (λ e. inl z) (λ e. p)
 
-transmits : (s : Simulation) (l : Line) → TickNumber (tryTransmit l (s .head .clock) (firstOf s) (spanOf (s .network .delay)) (rateOf (s .network .rate)) .number)
+transmits : (s : Simulation) (l : ℕ) (x : Line)
+    → TickNumber (tryTransmit x (s .head .clock) (firstOf s l) (spanOf (valuesOf (s .network) l .delay)) (rateOf (valuesOf (s .network) l .rate)) .number)
 unfolding tryTransmit
-transmits s l =
+transmits s l x =
     let F : Transmitted → Type 0 = λ t. TickNumber (t .number) in
-    cond-elim F (isFree l (s .head .clock)) _ _ (λ e. cond-elim F (leb places (l .«on_line» .count)) _ _ (λ full. inr (omega arith, omega arith)) (λ room. inl refl)) (λ e. inl refl)
+    cond-elim F (isFree x (s .head .clock)) _ _ (λ e. cond-elim F (leb places (x .«on_line» .count)) _ _ (λ full. inr (omega arith, omega arith)) (λ room. inl refl)) (λ e. inl refl)
 
-link-acts : (s : Simulation) → TickNumber (linkActs s .number)
+link-acts : (s : Simulation) (l : ℕ) → TickNumber (linkActs s l .number)
 unfolding linkActs
-link-acts s = or-stopped s _ _ refl (transmits s (tryDeliver (s .line) (s .head .clock) (frontOf s) (s .network .loss) .line))
+link-acts s l = or-stopped s _ _ refl (transmits s l (tryDeliver (lineAt s l) (s .head .clock) (frontOf s l) (valuesOf (s .network) l .loss) .line))
 
 sends : (sent : ℕ) (policy : Policy) (e : Enabled) (clock : Time) (i : ℕ) → TickNumber (tickSend sent policy e clock i .number)
 unfolding tickSend
@@ -93,19 +94,24 @@ Told (moves r s) = Unit {0}
 
 delivers : (r : TickRecord) (s : Simulation) (m : Message) → Told (deliver r s m)
 unfolding deliver receiveOf
-delivers r s (arrives p) =
-    let a = receiveOf (s .network .limit) (s .line) (packetBits (s .network) p) in
+delivers r s (arrives l p) =
+    let limit = valuesOf (s .network) l .limit in
+    let a = receiveOf limit (lineAt s l) (packetBits (s .network) p) in
     let F : Arrival → Type 0 = λ x. TickNumber (x .number) in
     cond-elim Told (eqb (a .number) 0) _ _ (λ z. cond-elim Told (a .admitted) _ _ (λ b. tt) (λ b. tt))
-    (λ z. cond-elim F (admits (s .network .limit) (s .line .«buffer_contains») (packetBits (s .network) p)) _ _
-    (λ fits. cond-elim F (leb places (s .line .waiting .count)) _ _ (λ full. inr (omega arith, omega arith)) (λ room. inl refl)) (λ over. inl refl))
+    (λ z. cond-elim F (admits limit (lineAt s l .«buffer_contains») (packetBits (s .network) p)) _ _
+    (λ fits. cond-elim F (leb places (lineAt s l .waiting .count)) _ _ (λ full. inr (omega arith, omega arith)) (λ room. inl refl)) (λ over. inl refl))
+delivers r s (bounces p) = tt
 delivers r s (returns p) = tt
 delivers r s (switches i on) = tt
 
+delivers-each : (o : Outcome) → Told o → (ms : List Message) → Told (deliverEach o ms)
+delivers-each o k [] = k
+delivers-each (stops n) k (m ∷ ms) = k
+delivers-each (moves r s) k (m ∷ ms) = delivers-each (deliver r s m) (delivers r s m) ms
+
 delivers-all : (o : Outcome) → Told o → (ms : List Message) → Told (deliverAll o ms)
-delivers-all o k [] = k
-delivers-all (stops n) k (m ∷ ms) = k
-delivers-all (moves r s) k (m ∷ ms) = delivers-all (deliver r s m) (delivers r s m) ms
+delivers-all o k ms = delivers-each (deliverEach o ms) (delivers-each o k ms) (answers ms)
 
 picks : (o : Outcome) → Told o → Told (pickAgain o)
 picks (stops n) k = k
@@ -120,7 +126,8 @@ acts-told role a k =
 
 turn-told : (s : Simulation) (role : Role) → Told (outcomeOf s role)
 unfolding outcomeOf actsOf
-turn-told s link = acts-told link (linkActs s) (link-acts s)
+turn-told s (link l) = acts-told (link l) (linkActs s l) (link-acts s l)
+turn-told s bouncer = inr (omega arith, omega arith)
 turn-told s (sender i) = acts-told (sender i) (senderActs s i) (sender-acts s i)
 turn-told s (toggler i) = acts-told (toggler i) (togglerActs s i) (toggler-acts s i)
 turn-told s nobody = inr (omega arith, omega arith)
@@ -137,7 +144,7 @@ tick-number s = cond-elim (λ (t : Ticked). TickNumber (t .number)) (fit s) (tic
     with-next Next.None = inl refl
     with-next (Next.Part j) =
         cond-elim (λ (t : Ticked). TickNumber (t .number)) (lt (power 40) (s .head .clock .0 .0)) _ _ (λ late. inr (omega arith, omega arith))
-        (λ early. ticked-told s (outcomeOf s (roleOf (s .network .senders) j)) (turn-told s (roleOf (s .network .senders) j)))
+        (λ early. ticked-told s (outcomeOf s (roleIn (s .network) j)) (turn-told s (roleIn (s .network) j)))
 
 -- ---- every run
 

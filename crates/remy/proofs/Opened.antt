@@ -13,7 +13,7 @@ use Rattle.toggler.specs.Queue.{sooner, pickOf}
 use Rattle.remy.specs.Network.{networkStop}
 use Rattle.remy.specs.State.{roleOf}
 use Rattle.remy.specs.Queue.{ownTime, requeue, picked}
-use Rattle.remy.specs.Build.{populate, ownTimes, queuedAll, buildOf}
+use Rattle.remy.specs.Build.{populate, backWords, ownTimes, queuedAll, buildOf}
 use Rattle.remy.specs.Fit as Fit
 use Rattle.remy.specs.Tick.{linkActs, senderActs, togglerActs, actsOf, deliver, outcomeOf, tickOf}
 use Rattle.remy.specs.Run.{runOf}
@@ -48,7 +48,7 @@ unfolding doubles Sender.firstWindow Sender.windowSent Sender.windowCounted Send
 sender = tt
 
 unfoldable pub building : Unit {0}
-unfolding draws nextTimes networkStop newToggler populate ownTimes queuedAll sooner pickOf picked buildOf
+unfolding draws nextTimes networkStop newToggler populate backWords ownTimes queuedAll sooner pickOf picked buildOf
 building = tt
 
 unfoldable pub ticking : Unit {0}

@@ -109,4 +109,4 @@ zero-plain = record { double = unfold fits in tt; sign = refl }
 
 -- such times, by kind
 abbrev pub plain : Kinds
-plain = record { free = PlainOrLeast; due = Plain; timer = λ i. Plain; toggle = λ i. Plain; queued = Plain }
+plain = record { free = λ l. PlainOrLeast; due = λ l. Plain; timer = λ i. Plain; toggle = λ i. Plain; queued = Plain }

@@ -15,16 +15,17 @@ use Rattle.remy.proofs.Lists.{All, all-map}
 use Rattle.remy.proofs.Facts.{FitState}
 use Rattle.remy.proofs.Plain.{Plain, plain, plain-after, plain-latest}
 use Rattle.remy.proofs.NewTimes.{part-has}
+use Rattle.remy.proofs.Roles.{Real}
 use Rattle.remy.proofs.HeldTimes.{Every, Closed, tick-has}
 
 pub plain-closed : (c : Time) → Plain c → Closed plain c
 plain-closed c p =
-    record { now = p; last = record { double = unfold fits in tt; sign = refl }; freed = λ t q. plain-latest p q; left = λ t q. q; fired = λ i t q. q; turned = λ i t q. q }
+    record { now = p; last = record { double = unfold fits in tt; sign = refl }; freed = λ l t q. plain-latest p q; left = λ l t q. q; fired = λ i t q. q; turned = λ i t q. q }
 
-new-plain : (s : Simulation) → Plain (s .head .clock) → FitState s → (role : Role) → All (Every plain) (partTimes s role)
-new-plain s p f role =
-    all-map Plain (Every plain) (λ t q. record { free = inl q; due = q; timer = λ i. q; toggle = λ i. q }) (partTimes s role)
-    (part-has s f Plain (λ w. sum _ (w .0)) (λ w. sum _ (w .0)) (λ gap w. sum gap (w .0)) (λ draw w. sum draw (w .0)) role)
+new-plain : (s : Simulation) → Plain (s .head .clock) → FitState s → (role : Role) → Real (s .network) role → All (Every plain) (partTimes s role)
+new-plain s p f role real =
+    all-map Plain (Every plain) (λ t q. record { free = λ l. inl q; due = λ l. q; timer = λ i. q; toggle = λ i. q }) (partTimes s role)
+    (part-has s f Plain (λ bits rate w. sum _ (w .0)) (λ delay w. sum _ (w .0)) (λ gap w. sum gap (w .0)) (λ draw w. sum draw (w .0)) role real)
   where
     sum : (span : Float) → T (le zeroF span) → Plain (spanAfter (s .head .clock) (spanOf span))
     sum span h = plain-after (spanOf span) p h

@@ -2,14 +2,15 @@
 use mathlib.Core.Path.{_≡_, refl, sym, ap, subst, _∙_}
 use mathlib.Core.Logic.{_⊎_, inl, inr, ⊎-elim}
 use mathlib.Core.Bool.{Bool, true, false, and-false}
-use mathlib.Core.List.{List, [], List·Memᴰ·not-nil}
-use Prim.Native.Nat.{ℕ, zero, suc, _+_, zero-le}
+use mathlib.Core.List.{List, [], map, List·Memᴰ, List·Memᴰ·not-nil}
+use Prim.Native.Nat.{ℕ, zero, suc, _+_, _*_, _<_, zero-le}
 use native.Mathlib.Omega.{arith}
 use borrow.Author.Tests.{eqb-true, eqb-false, lt-leb}
 use lib.Dec.{leb, ltb, eqb}
 use lib.ListN.{length, getD, set, replicate, length-set}
 use lib.Dec.{T}
 use lib.Ieee.{lt}
+use Rattle.quantities.specs.declared.time.Time.{Time}
 use Rattle.quantities.specs.declared.time.OptionTime.the-variants.{None}
 use Rattle.quantities.specs.Doubles.{zeroF}
 use Rattle.quantities.specs.Units.{spanOf, timeOf, spanAfter}
@@ -21,6 +22,8 @@ use Rattle.rand.specs.Draws.{drawOf, redraw, positiveOf}
 use Rattle.meters.specs.Meter.{newMeter}
 use Rattle.link.specs.declared.link.Limit.{Limit}
 use Rattle.link.specs.declared.link.Limit.the-variants as Limit
+use Rattle.link.specs.Ring.{places, items}
+use Rattle.link.proofs.Items.{Sound}
 use Rattle.sender.specs.declared.lossy.LossySender.{LossySender}
 use Rattle.toggler.specs.declared.toggler.Toggler.{Toggler}
 use Rattle.toggler.specs.declared.toggler.Toggled.{Toggled}
@@ -31,18 +34,19 @@ use Rattle.remy.specs.declared.network.RemyNetwork.{RemyNetwork}
 use Rattle.remy.specs.declared.simulation.Simulation.{Simulation}
 use Rattle.remy.specs.declared.simulation.Built.{Built}
 use Rattle.remy.specs.Network.{networkStop}
-use Rattle.remy.specs.State.{noSender, noToggler, noMeter, withQueue}
+use Rattle.remy.specs.State.{valuesOf, noTransit, noSender, noToggler, noMeter, withQueue}
 use Rattle.remy.specs.Queue.{picked}
-use Rattle.remy.specs.Build.{emptyNetwork, emptySimulation, newSender, blankWords, blankWaiting, blankTransit, blankToggler, Parts, noParts, populate, unqueued, ownTimes, queuedAll, notBuilt, buildFrom, buildOf}
+use Rattle.remy.specs.Build.{emptyNetwork, emptySimulation, newLine, newSender, blankWords, blankWaiting, blankTransit, blankToggler, Parts, noParts, populate, backWords, unqueued, ownTimes, queuedAll, notBuilt, buildFrom, buildOf}
 use Rattle.remy.specs.History.{Fresh}
 use Rattle.remy.specs.HeldTimes.{Full, IfAny, timerOf, Holds, Has}
 use Rattle.remy.specs.Account.{Limited}
-use Rattle.remy.proofs.Plain.{Plain, plain, plain-after, plain-nan, zero-plain}
-use Rattle.remy.proofs.Kept.{all-set, wasSent, Kept, keep-unread}
+use Rattle.remy.proofs.Plain.{Plain, PlainOrLeast, plain, plain-after, plain-nan, zero-plain}
+use Rattle.remy.proofs.Lines.{LineKept}
+use Rattle.remy.proofs.Kept.{all-set, wasSent, sizeIn, Kept, keep-unread}
 use Rattle.remy.proofs.Steps.{cond-elim, keep-picked}
 use Rattle.remy.proofs.HeldTimes.{queued-has}
 use Rattle.remy.proofs.PlainTimes.{plain-closed}
-use Rattle.remy.proofs.Fresh.{times-length}
+use Rattle.remy.proofs.Fresh.{new-lines, times-length}
 use Rattle.remy.proofs.Empty.{empty-built}
 
 -- ---- arrays filled with one value
@@ -92,14 +96,14 @@ first-toggle g off =
     (λ e. plain-after (spanOf (d .value)) zero-plain (lt→le zeroF (d .value) (draw-positive 8 off g (eqb-true (d .number) 0 e))))
     (λ e. zero-plain)
 
-populate-new : (left i : ℕ) (root : Rng) (off : ContinuousDistribution) (p : Parts) → NewParts p → NewParts (populate left i root off p)
+populate-new : (left i : ℕ) (off : ContinuousDistribution) (p : Parts) → NewParts p → NewParts (populate left i off p)
 unfolding populate
-populate-new zero i root off p k = k
-populate-new (suc left) i root off p k =
-    let c = childOf root in
+populate-new zero i off p k = k
+populate-new (suc left) i off p k =
+    let c = childOf (p .root) in
     let d = childOf (c .parent) in
     let t = newToggler (d .child) off in
-    let more : Parts = record { number = t .number; senders = set (p .senders) i (newSender (c .child)); togglers = set (p .togglers) i (t .toggler) } in
+    let more : Parts = record { number = t .number; root = d .parent; senders = set (p .senders) i (newSender (c .child)); togglers = set (p .togglers) i (t .toggler) } in
     let kept : NewParts more =
     record {
       senders-full = length-set (p .senders) i (newSender (c .child)) ∙ k .senders-full;
@@ -107,10 +111,10 @@ populate-new (suc left) i root off p k =
       senders = all-set NewSender noSender (p .senders) i (newSender (c .child)) (k .senders) (new-sender (c .child));
       togglers = all-set (λ (x : Toggler). Plain (x .«next_toggle»)) noToggler (p .togglers) i (t .toggler) (k .togglers) (first-toggle (d .child) off);
     } in
-    cond-elim NewParts (eqb (t .number) 0) (populate left (i + 1) (d .parent) off more) more (λ e. populate-new left (i + 1) (d .parent) off more kept) (λ e. kept)
+    cond-elim NewParts (eqb (t .number) 0) (populate left (i + 1) off more) more (λ e. populate-new left (i + 1) off more kept) (λ e. kept)
 
-no-parts-new : NewParts noParts
-no-parts-new =
+no-parts-new : (root : Rng) → NewParts (noParts root)
+no-parts-new root =
     record {
       senders-full = same-length (newSender blankWords) 16;
       togglers-full = same-length blankToggler 16;
@@ -129,17 +133,20 @@ unlimited : (l : Limit) → Limited l 0
 unlimited Limit.None = tt
 unlimited (Limit.Bits most) = zero-le
 
-module _ (n : RemyNetwork) (g : Rng) (p : Parts) (k : NewParts p) where
-  unqueued-kept : Kept n [] [] [] [] [] (unqueued n g p)
-  unqueued-kept =
+-- the rings of a new line, in slots that are all alike
+new-ring : {A : Type 0} (x : A) (l : ℕ) → l < 2 → Sound (replicate (places * 2) x) l (record { start = 0; count = 0 })
+new-ring x l h = record { full = omega (arith, same-length x (places * 2)); start = omega arith; count = omega arith }
+
+module _ (n : RemyNetwork) (g back : Rng) (p : Parts) (k : NewParts p) where
+  -- a line that no packet came to
+  line-kept : (l : ℕ) → l < 2 → (r : Rng)
+      → LineKept (valuesOf n l) (sizeIn n) l [] [] [] (replicate (places * 2) blankWaiting) (replicate (places * 2) blankTransit) (newLine r)
+  line-kept l h r =
       record {
-        network = refl;
-        senders-full = k .senders-full;
-        meters-full = same-length newMeter 16;
-        line =
+        queue = new-ring blankWaiting l h;
+        transit = new-ring blankTransit l h;
+        books =
             record {
-              queue = record { full = same-length blankWaiting 512; start = omega arith; count = omega arith };
-              transit = record { full = same-length blankTransit 512; start = omega arith; count = omega arith };
               starts = refl;
               leaves = refl;
               dues = refl;
@@ -147,42 +154,58 @@ module _ (n : RemyNetwork) (g : Rng) (p : Parts) (k : NewParts p) where
               after = tt;
               bits = refl;
               carried = refl;
-              limit = unlimited (n .limit);
+              limit = unlimited (valuesOf n l .limit);
             };
+      }
+
+  unqueued-kept : Kept n (λ l. []) (λ l. []) (λ l. []) [] [] (unqueued n g back p)
+  unqueued-kept =
+      record {
+        network = refl;
+        lines-full = refl;
+        senders-full = k .senders-full;
+        meters-full = same-length newMeter 16;
+        line =
+            new-lines (λ l. LineKept (valuesOf n l) (sizeIn n) l [] [] [] (replicate (places * 2) blankWaiting) (replicate (places * 2) blankTransit)) n g back
+            (line-kept 0 (omega arith) g) (line-kept 1 (omega arith) back);
         sends = λ i. k .senders i .sent;
         once = λ i m. none-sent n i m ∙ ap (λ (c : ℕ). wasSent n i c m) (sym (k .senders i .sent));
         meter = λ i below. all-same (λ x. x .records ≡ 0) newMeter noMeter refl refl 16 i;
       }
 
-  built-kept : Kept n [] [] [] [] [] (picked (queuedAll (unqueued n g p)))
+  built-kept : Kept n (λ l. []) (λ l. []) (λ l. []) [] [] (picked (queuedAll (unqueued n g back p)))
   unfolding queuedAll
   built-kept =
-      let u = unqueued n g p in
+      let u = unqueued n g back p in
       keep-picked (keep-unread unqueued-kept (u .head) (u .togglers) (ownTimes u queuePlaces 0))
 
   -- its times are plain, but for the earliest start
-  unqueued-plain : Holds plain (unqueued n g p)
+  unqueued-plain : Holds plain (unqueued n g back p)
   unqueued-plain =
       record {
-        free = inr refl;
-        due = λ t m. absurd (List·Memᴰ·not-nil m);
+        free = new-lines (λ l x. PlainOrLeast (x .«earliest_transmit»)) n g back (inr refl) (inr refl);
+        due =
+            new-lines (λ l x. (t : Time) → List·Memᴰ t (map (λ y. y .due) (items noTransit (replicate (places * 2) blankTransit) l (x .«on_line»))) → Plain t) n g back
+            (λ t m. absurd (List·Memᴰ·not-nil m)) (λ t m. absurd (List·Memᴰ·not-nil m));
         timer = λ i below. k .senders i .timer;
         toggle = λ i below. k .togglers i;
         queued = λ j below. all-same (λ x. IfAny Plain (x .time)) noQueued noQueued tt tt queuePlaces j;
       }
 
   -- so they are where each part is queued at its own
-  built-plain : Has plain (picked (queuedAll (unqueued n g p)))
+  built-plain : Has plain (picked (queuedAll (unqueued n g back p)))
   unfolding queuedAll
   built-plain =
-      queued-has plain (unqueued n g p) (plain-closed (timeOf zeroF) zero-plain) (full (same-length noQueued queuePlaces)) (full (times-length (unqueued n g p) queuePlaces 0))
-      (record { full = same-length blankTransit 512; start = omega arith; count = omega arith }) unqueued-plain
+      let u = unqueued n g back p in
+      queued-has plain u (plain-closed (timeOf zeroF) zero-plain) (full (same-length noQueued queuePlaces)) (full (times-length u queuePlaces 0))
+      (new-lines (λ l x. Sound (replicate (places * 2) blankTransit) l (x .«on_line»)) n g back (new-ring blankTransit 0 (omega arith)) (new-ring blankTransit 1 (omega arith))) unqueued-plain
     where
-      full : {queue : List Queued} → length queue ≡ queuePlaces → Full (withQueue (unqueued n g p) queue)
+      full : {queue : List Queued} → length queue ≡ queuePlaces → Full (withQueue (unqueued n g back p) queue)
       full e =
           record {
-            waiting = same-length blankWaiting 512;
-            moving = same-length blankTransit 512;
+            lines = refl;
+            waiting = same-length blankWaiting (places * 2);
+            moving = same-length blankTransit (places * 2);
             senders = k .senders-full;
             togglers = k .togglers-full;
             meters = same-length newMeter 16;
@@ -193,7 +216,7 @@ module _ (n : RemyNetwork) (g : Rng) (p : Parts) (k : NewParts p) where
 
 -- what is kept from then on, with nothing in the history
 pub record FreshKept (n : RemyNetwork) (s : Simulation) : Type 0 where
-  pub kept : Kept n [] [] [] [] [] s
+  pub kept : Kept n (λ l. []) (λ l. []) (λ l. []) [] [] s
   pub plain : Has plain s
 
 abbrev BuildKept : RemyNetwork → Built → Type 0
@@ -206,11 +229,12 @@ build-keeps : (n : RemyNetwork) (seed : ℕ) → BuildKept n (buildOf n seed)
 unfolding buildOf
 build-keeps n seed =
     let c = childOf (fromSeed seed) in
-    let parts = populate (n .senders) 0 (c .parent) (n .off) noParts in
-    let new = populate-new (n .senders) 0 (c .parent) (n .off) noParts no-parts-new in
+    let parts = populate (n .senders) 0 (n .off) (noParts (c .parent)) in
+    let back = backWords n (parts .root) in
+    let new = populate-new (n .senders) 0 (n .off) (noParts (c .parent)) (no-parts-new (c .parent)) in
     cond-elim (BuildKept n) (eqb (networkStop n) 0) (buildFrom n (c .child) parts) (notBuilt (networkStop n))
-    (λ fine. cond-elim (BuildKept n) (eqb (parts .number) 0) (record { number = 0; simulation = picked (queuedAll (unqueued n (c .child) parts)) }) (notBuilt (parts .number))
-    (λ drawn zero. record { kept = built-kept n (c .child) parts new; plain = built-plain n (c .child) parts new })
+    (λ fine. cond-elim (BuildKept n) (eqb (parts .number) 0) (record { number = 0; simulation = picked (queuedAll (unqueued n (c .child) back parts)) }) (notBuilt (parts .number))
+    (λ drawn zero. record { kept = built-kept n (c .child) back parts new; plain = built-plain n (c .child) back parts new })
     (λ spent zero. not-zero (parts .number) spent zero))
     (λ refused zero. not-zero (networkStop n) refused zero)
 
@@ -226,9 +250,9 @@ built-or-empty : (n : RemyNetwork) (seed : ℕ) → BuiltOrEmpty (buildOf n seed
 unfolding buildOf
 built-or-empty n seed =
     let c = childOf (fromSeed seed) in
-    let parts = populate (n .senders) 0 (c .parent) (n .off) noParts in
+    let parts = populate (n .senders) 0 (n .off) (noParts (c .parent)) in
     cond-elim BuiltOrEmpty (eqb (networkStop n) 0) (buildFrom n (c .child) parts) (notBuilt (networkStop n))
-    (λ fine. cond-elim BuiltOrEmpty (eqb (parts .number) 0) (record { number = 0; simulation = picked (queuedAll (unqueued n (c .child) parts)) }) (notBuilt (parts .number)) (λ drawn. inl refl) (λ spent. inr refl))
+    (λ fine. cond-elim BuiltOrEmpty (eqb (parts .number) 0) (record { number = 0; simulation = picked (queuedAll (unqueued n (c .child) (backWords n (parts .root)) parts)) }) (notBuilt (parts .number)) (λ drawn. inl refl) (λ spent. inr refl))
     (λ refused. inr refl)
 
 -- what holds of every fresh simulation holds of what a build returns

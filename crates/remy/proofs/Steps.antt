@@ -2,6 +2,7 @@
 use mathlib.Core.Path.{_≡_, refl}
 use mathlib.Core.Bool.{Bool, true, false, cond}
 use mathlib.Core.List.{List}
+use Prim.Native.Nat.{ℕ}
 use lib.ListN.{set}
 use Rattle.toggler.specs.Queue.{pickOf}
 use Rattle.remy.specs.declared.network.RemyNetwork.{RemyNetwork}
@@ -16,11 +17,11 @@ pub cond-elim : {A : Type 0} (F : A → Type 0) (b : Bool) (x y : A) → (b ≡ 
 cond-elim F true x y f g = f refl
 cond-elim F false x y f g = g refl
 
-module _ {n : RemyNetwork} {admitted started left sent : List Entry} {counted : List PacketId} {s : Simulation}
+module _ {n : RemyNetwork} {admitted started left : ℕ → List Entry} {sent : List Entry} {counted : List PacketId} {s : Simulation}
     (k : Kept n admitted started left sent counted s) where
   pub keep-requeue : (role : Role) → Kept n admitted started left sent counted (requeue s role)
   unfolding requeue
-  keep-requeue role = keep-unread k (s .head) (s .togglers) (set (s .queue) (partOf role) (record { time = ownTime s role }))
+  keep-requeue role = keep-unread k (s .head) (s .togglers) (set (s .queue) (partOf (s .network .senders) role) (record { time = ownTime s role }))
 
   pub keep-picked : Kept n admitted started left sent counted (picked s)
   unfolding picked

@@ -2,47 +2,60 @@
 use mathlib.Core.Path.{_≡_, refl}
 use mathlib.Core.Bool.{Bool, true, false, not, cond}
 use mathlib.Core.List.{List, [], _∷_, _++_}
-use Prim.Native.Nat.{ℕ, _+_, _-_, _/_, _%_, _<_}
-use borrow.Author.Tests.{ltb-true}
-use lib.Dec.{leb, ltb, eqb}
+use Prim.Native.Nat.{ℕ, zero, suc, _+_, _<_}
+use native.Mathlib.Omega.{arith}
+use borrow.Author.Tests.{ne-eqb}
+use lib.Dec.{leb, eqb}
 use lib.ListN.{set}
 use lib.Ieee.{lt}
+use Rattle.quantities.specs.declared.time.Time.{Time}
 use Rattle.quantities.specs.Doubles.{power}
 use Rattle.link.specs.declared.packet.Packet.{Packet}
-use Rattle.link.specs.declared.link.Arrival.{Arrival}
 use Rattle.sender.specs.declared.lossy.Enabled.{Enabled}
 use Rattle.sender.specs.declared.lossy.SenderState.{SenderState}
 use Rattle.sender.specs.declared.lossy.SenderState.the-variants as State
 use Rattle.sender.specs.declared.lossy.Sent.{Sent}
 use Rattle.toggler.specs.declared.toggler.Toggler.{Toggler}
 use Rattle.toggler.specs.declared.toggler.Toggled.{Toggled}
-use Rattle.link.specs.Ring.{places}
-use Rattle.link.specs.Link.{admits, admitted, receiveOf}
 use Rattle.sender.specs.Sender.{windowSent, timerSent, timerDue, tickTimer, notSent, tickSend, enabledOf, disabledOf, sentWith}
 use Rattle.toggler.specs.Toggler.{nextToggle, toggleDraw, toggleOf}
 use Rattle.remy.specs.declared.simulation.Simulation.{Simulation}
 use Rattle.remy.specs.declared.simulation.Mark.the-variants as Mark
 use Rattle.remy.specs.declared.simulation.Name.the-variants as Name
 use Rattle.remy.specs.declared.simulation.TickRecord.{TickRecord}
-use Rattle.remy.specs.State.{Role, link, sender, toggler, nobody, roleOf, senderAt, togglerAt, packetBits, withSender, withToggler}
+use Rattle.remy.specs.State.{hasBack, Role, link, bouncer, sender, toggler, nobody, roleIn, senderAt, togglerAt, withSender, withToggler}
 use Rattle.remy.specs.Queue.{requeue, picked}
-use Rattle.remy.specs.Tick.{named, recordAt, arrives, Acted, enabledSender, timerWith, sendWith, senderWith, senderActs, togglerWith, togglerActs, actsOf, arriveWith, switchedSender, switchWith, deliver, pickAgain, outcomeWith, outcomeOf}
-use Rattle.remy.specs.History.{PacketId, Entry}
+use Rattle.remy.specs.Tick.{named, recordAt, arrives, Acted, enabledSender, timerWith, sendWith, senderWith, senderActs, togglerWith, togglerActs, actsOf, switchedSender, switchWith, deliver, pickAgain, outcomeWith, outcomeOf}
+use Rattle.remy.specs.History.{PacketId, Entry, isS, isP, sends, admissions, counted}
+use Rattle.remy.specs.Names.{isLeave}
 use Rattle.remy.specs.HeldTimes.{Holds}
 use Rattle.remy.proofs.Lines.{entryAt}
 use Rattle.remy.proofs.Plain.{Plain, plain}
-use Rattle.remy.proofs.Facts.{FitState}
+use Rattle.remy.proofs.Facts.{FitState, first-there, second-there}
 use Rattle.remy.proofs.Networks.{few-senders}
-use Rattle.remy.proofs.Kept.{Kept, kept-lists, keep-sender, keep-unread, count-sent}
+use Rattle.remy.proofs.Kept.{Kept, kept-lists, grown, keep-sender, keep-unread, count-sent}
 use Rattle.remy.proofs.Front.{accepted}
 use Rattle.remy.proofs.Steps.{cond-elim, keep-requeue, keep-picked}
-use Rattle.remy.proofs.Parts.{keep-arrive, keep-switch}
-use Rattle.remy.proofs.Outcomes.{OnMoves, Grown, same, on-stopped, link-good}
+use Rattle.remy.proofs.Parts.{keep-switch}
+use Rattle.remy.proofs.Roles.{role-elim}
+use Rattle.remy.proofs.Outcomes.{OnMoves, Grown, same, on-stopped, none-admitted, none-started, none-left, arrival-elim, link-good}
 
-module _ {adm sts lvs snd : List Entry} {cnt : List PacketId} {s : Simulation} (f : FitState s) (early : lt (power 40) (s .head .clock .0 .0) ≡ false)
+-- an S record admits its packet to the first line
+first-admitted : (adm : ℕ → List Entry) (t : Time) (part : ℕ) (p : Packet) (m : ℕ)
+    → grown adm 0 (entryAt t p ∷ []) m ≡ adm m ++ admissions m (record { time = t; part = part; mark = Mark.Sent; packet = named p; started = Name.None } ∷ [])
+first-admitted adm t part p zero = refl
+first-admitted adm t part p (suc m) = rw (ne-eqb (suc m) 0 (λ (e : suc m ≡ 0). omega arith))
+
+module _ {adm sts lvs : ℕ → List Entry} {snd : List Entry} {cnt : List PacketId} {s : Simulation} (f : FitState s) (early : lt (power 40) (s .head .clock .0 .0) ≡ false)
     (clock : Plain (s .head .clock)) (held : Holds plain s) (k : Kept (s .network) adm sts lvs snd cnt s) where
   abbrev Good : TickRecord → Simulation → Type 0
   Good = Grown (s .network) adm sts lvs snd cnt
+
+  -- a record by which nothing starts or leaves, and nothing is admitted
+  quiet : (r : TickRecord) → isS (r .mark) ≡ false → isP (r .mark) ≡ false → r .started ≡ Name.None → isLeave (r .mark) ≡ false → (m : Simulation) → {snd' : List Entry} {cnt' : List PacketId}
+      → Kept (s .network) adm sts lvs snd' cnt' m → snd' ≡ snd ++ sends (r ∷ []) → cnt' ≡ cnt ++ counted (r ∷ []) → Good r m
+  quiet r a b c d m q snd-same cnt-same =
+      kept-lists (λ l g. none-admitted (s .network) r adm a b l) (λ l g. none-started (s .network) r sts c l) (λ l g. none-left (s .network) r lvs d l) snd-same cnt-same q
 
   -- ---- a sender's turn
   module _ (i : ℕ) (h : i < s .network .senders) where
@@ -60,20 +73,14 @@ module _ {adm sts lvs snd : List Entry} {cnt : List PacketId} {s : Simulation} (
       sent-kept = keep-requeue (count-sent k i (enabledSender (senderAt s i) (senderAt s i .«packets_sent» + 1) e) (s .head .clock) h (few-senders (accepted s f)) refl) (sender i)
 
       -- admitted, dropped full, or refused; the account does not read the record's part
-      arrival-good : (part : ℕ) → OnMoves Good (pickAgain (deliver (record { time = s .head .clock; part = part; mark = Mark.None; packet = named next; started = Name.None }) after-send (arrives next)))
-      unfolding deliver receiveOf after-send next requeue
+      arrival-good : (part : ℕ) → OnMoves Good (pickAgain (deliver (record { time = s .head .clock; part = part; mark = Mark.None; packet = named next; started = Name.None }) after-send (arrives 0 next)))
+      unfolding after-send next requeue
       arrival-good part =
-          let st = after-send in
           let r : TickRecord = record { time = s .head .clock; part = part; mark = Mark.None; packet = named next; started = Name.None } in
-          let dropped : Arrival = record { number = 0; admitted = false; line = st .line } in
-          let taken : Arrival = record { number = 0; admitted = true; line = admitted (st .line) (packetBits (s .network) next) } in
-          let full : Arrival = record { number = 12; admitted = false; line = st .line } in
-          cond-elim (λ (a : Arrival). OnMoves Good (pickAgain (arriveWith r st next a))) (admits (s .network .limit) (st .line .«buffer_contains») (packetBits (s .network) next))
-          (cond (leb places (st .line .waiting .count)) full taken) dropped
-          (λ fits. cond-elim (λ (a : Arrival). OnMoves Good (pickAgain (arriveWith r st next a))) (leb places (st .line .waiting .count)) full taken
-          (λ none. tt)
-          (λ room. kept-lists refl (same sts) (same lvs) refl (same cnt) (keep-picked (keep-requeue (keep-arrive sent-kept next room fits) link))))
-          (λ over. kept-lists (same adm) (same sts) (same lvs) refl (same cnt) (keep-picked (keep-requeue sent-kept link)))
+          let sent : TickRecord = record { time = s .head .clock; part = part; mark = Mark.Sent; packet = named next; started = Name.None } in
+          arrival-elim sent-kept 0 (first-there (hasBack (s .network .back))) next r Good
+          (λ m z. kept-lists (λ l g. first-admitted adm (s .head .clock) part next l) (λ l g. none-started (s .network) sent sts refl l) (λ l g. none-left (s .network) sent lvs refl l) refl (same cnt) z)
+          (λ m z. quiet (record { time = s .head .clock; part = part; mark = Mark.Full; packet = named next; started = Name.None }) refl refl refl refl m z refl (same cnt))
 
     turn-with : (x : SenderState) → senderAt s i .state ≡ x → OnMoves Good (outcomeWith (sender i) (senderWith s i x))
     unfolding tickSend next after-send
@@ -85,8 +92,7 @@ module _ {adm sts lvs snd : List Entry} {cnt : List PacketId} {s : Simulation} (
         let t = tickTimer policy e now in
         let timer = timerSent policy (e .timer) now in
         cond-elim (λ (a : Acted). OnMoves Good (outcomeWith (sender i) a)) (timerDue e now) (timerWith s i t) (sendWith s i (tickSend sent policy e now i))
-        (λ due. kept-lists (same adm) (same sts) (same lvs) (same snd) (same cnt)
-        (keep-picked (keep-requeue (keep-sender k i (enabledSender (senderAt s i) sent t) refl) (sender i))))
+        (λ due. quiet (recordAt s (sender i) Mark.Timer Name.None Name.None) refl refl refl refl _ (keep-picked (keep-requeue (keep-sender k i (enabledSender (senderAt s i) sent t) refl) (sender i))) (same snd) (same cnt))
         (λ due. cond-elim (λ (a : Sent). OnMoves Good (outcomeWith (sender i) (sendWith s i a))) (leb 16777216 sent) (notSent sent e now i) (sentWith sent policy e now i)
         (λ spent. tt)
         (λ room. arrival-good (record { started = e .started; «greatest_ack» = e .«greatest_ack»; cwnd = windowSent policy (e .cwnd); timer = timer }) _))
@@ -102,11 +108,11 @@ module _ {adm sts lvs snd : List Entry} {cnt : List PacketId} {s : Simulation} (
         → OnMoves Good (pickAgain (switchWith (recordAt s (toggler i) Mark.None Name.None Name.None) st i on))
     unfolding enabledOf disabledOf
     switch-good st true q =
-        kept-lists (same adm) (same sts) (same lvs) (same snd) (same cnt)
-        (keep-picked (keep-requeue (keep-switch (keep-sender q i (switchedSender st i true) refl) i true) (sender i)))
+        quiet (recordAt s (toggler i) Mark.Enabled Name.None Name.None) refl refl refl refl _
+        (keep-picked (keep-requeue (keep-switch (keep-sender q i (switchedSender st i true) refl) i true) (sender i))) (same snd) (same cnt)
     switch-good st false q =
-        kept-lists (same adm) (same sts) (same lvs) (same snd) (same cnt)
-        (keep-picked (keep-requeue (keep-switch (keep-sender q i (switchedSender st i false) refl) i false) (sender i)))
+        quiet (recordAt s (toggler i) Mark.Disabled Name.None Name.None) refl refl refl refl _
+        (keep-picked (keep-requeue (keep-switch (keep-sender q i (switchedSender st i false) refl) i false) (sender i))) (same snd) (same cnt)
 
     pub toggler-good : OnMoves Good (outcomeOf s (toggler i))
     unfolding outcomeOf actsOf togglerActs toggleOf deliver
@@ -126,15 +132,17 @@ module _ {adm sts lvs snd : List Entry} {cnt : List PacketId} {s : Simulation} (
   unfolding outcomeOf actsOf
   nobody-good = tt
 
-  pub turn-good : (j : ℕ) → OnMoves Good (outcomeOf s (roleOf (s .network .senders) j))
-  unfolding roleOf
+  -- the bouncer is never next
+  bouncer-good : OnMoves Good (outcomeOf s bouncer)
+  unfolding outcomeOf actsOf
+  bouncer-good = tt
+
+  pub turn-good : (j : ℕ) → OnMoves Good (outcomeOf s (roleIn (s .network) j))
   turn-good j =
-      let i = (j - 1) / 2 in
-      let there = cond (eqb (j % 2) 1) (sender i) (toggler i) in
-      cond-elim (λ (role : Role). OnMoves Good (outcomeOf s role)) (eqb j 0) link (cond (ltb i (s .network .senders)) there nobody)
-      (λ first. link-good f early clock held k)
-      (λ other. cond-elim (λ (role : Role). OnMoves Good (outcomeOf s role)) (ltb i (s .network .senders)) there nobody
-      (λ inside. cond-elim (λ (role : Role). OnMoves Good (outcomeOf s role)) (eqb (j % 2) 1) (sender i) (toggler i)
-      (λ odd. sender-good i (ltb-true i (s .network .senders) inside))
-      (λ even. toggler-good i))
-      (λ outside. nobody-good))
+      role-elim (λ (role : Role). OnMoves Good (outcomeOf s role)) (s .network .senders) (hasBack (s .network .back)) j
+      (link-good f early clock held k 0 (first-there (hasBack (s .network .back))))
+      (λ i inside. sender-good i inside)
+      (λ i inside. toggler-good i)
+      (λ back. bouncer-good)
+      (λ back. link-good f early clock held k 1 (second-there (hasBack (s .network .back)) back))
+      nobody-good

@@ -1,6 +1,6 @@
 -- Document 01, the paragraph "Unfit" below "Stops": a clause each, in the paragraph's order, then document 02's, and their conjunction. Definitions only.
--- Each definition says what a fit state has; a state in which one is false is unfit (9). Only the network's own senders, togglers and meters are read.
-use Prim.Native.Nat.{ℕ, _+_, _*_}
+-- Each definition says what a fit state has; a state in which one is false is unfit (9). Only the network's own lines, senders, togglers and meters are read.
+use Prim.Native.Nat.{ℕ, zero, suc, _+_, _*_}
 use mathlib.Core.Bool.{Bool, true, false, not, _&&_, _||_, Bool·beq, cond}
 use mathlib.Core.List.{List, [], _∷_}
 use lib.Dec.{leb, ltb, eqb}
@@ -25,10 +25,10 @@ use Rattle.remy.specs.declared.simulation.Next.{Next}
 use Rattle.remy.specs.declared.simulation.Next.the-variants as Next
 use Rattle.remy.specs.declared.simulation.Simulation.{Simulation}
 use Rattle.remy.specs.Network.{upTo, between, windowFit, networkStop}
-use Rattle.remy.specs.State.{senderAt, togglerAt, meterAt, queuedAt, waitingItems, waitingPackets, onLineItems, onLinePackets, senderBits, packetBits, totalBits}
+use Rattle.remy.specs.State.{lineCount, lineAt, senderAt, togglerAt, meterAt, queuedAt, waitingItems, waitingPackets, onLineItems, onLinePackets, senderBits, packetBits, totalBits}
 use Rattle.remy.specs.Queue.{nextTimeOf}
 
--- ---- tests of every member, and of every sender
+-- ---- tests of every member, of every sender and of every line
 
 abbrev pub every : {A : Type 0} → (A → Bool) → List A → Bool
 every f [] = true
@@ -37,30 +37,35 @@ every f (x ∷ xs) = f x && every f xs
 abbrev pub eachSender : Simulation → (ℕ → Bool) → Bool
 eachSender s f = upTo (s .network .senders) f
 
+abbrev pub eachLine : Simulation → (ℕ → Bool) → Bool
+eachLine s f = upTo (lineCount (s .network)) f
+
 -- ---- the clauses
 
--- network outside 1 to 7
+-- network outside 1 to 7, or a return line that 20 refuses
 unfoldable pub networkFit : Simulation → Bool
 networkFit s = eqb (networkStop (s .network)) 0
 
 -- a count of waiting or on-line packets above 512 or a queue start above 511
 unfoldable pub ringsFit : Simulation → Bool
 ringsFit s =
-    leb (s .line .waiting .count) places
-    && leb (s .line .«on_line» .count) places
-    && ltb (s .line .waiting .start) places
-    && ltb (s .line .«on_line» .start) places
+    eachLine s
+    (λ l.
+    leb (lineAt s l .waiting .count) places
+    && leb (lineAt s l .«on_line» .count) places
+    && ltb (lineAt s l .waiting .start) places
+    && ltb (lineAt s l .«on_line» .start) places)
 
 -- a packet naming no sender or with a sequence outside 1..sent
 abbrev pub packetFit : Simulation → Packet → Bool
 packetFit s p = ltb (p .sender) (s .network .senders) && between 1 (senderAt s (p .sender) .«packets_sent») (p .seq)
 
 unfoldable pub packetsFit : Simulation → Bool
-packetsFit s = every (packetFit s) (waitingPackets s) && every (packetFit s) (onLinePackets s)
+packetsFit s = eachLine s (λ l. every (packetFit s) (waitingPackets s l) && every (packetFit s) (onLinePackets s l))
 
 -- waiting bits other than the waiting packets' bits: the sum of what each carries
 unfoldable pub bitsFit : Simulation → Bool
-bitsFit s = eqb (s .line .«buffer_contains» .0) (totalBits (waitingItems s))
+bitsFit s = eachLine s (λ l. eqb (lineAt s l .«buffer_contains» .0) (totalBits (waitingItems s l)))
 
 -- a clock below 0
 unfoldable pub clockFit : Simulation → Bool
@@ -90,10 +95,10 @@ heldQueued s (Some t) = held t && le (s .head .clock .0 .0) (t .0 .0)
 unfoldable pub heldTimesFit : Simulation → Bool
 heldTimesFit s =
     (held (s .head .clock) || (isIdle (s .head .next) && eq (s .head .clock .0 .0) largest))
-    && held (s .line .«earliest_transmit»)
-    && every (λ p. held (p .«sent_time»)) (waitingPackets s)
-    && every (λ p. held (p .«sent_time»)) (onLinePackets s)
-    && every (λ x. held (x .due)) (onLineItems s)
+    && eachLine s (λ l. held (lineAt s l .«earliest_transmit»))
+    && eachLine s (λ l. every (λ p. held (p .«sent_time»)) (waitingPackets s l))
+    && eachLine s (λ l. every (λ p. held (p .«sent_time»)) (onLinePackets s l))
+    && eachLine s (λ l. every (λ x. held (x .due)) (onLineItems s l))
     && eachSender s (λ i. heldSender (senderAt s i .state))
     && eachSender s (λ i. held (togglerAt s i .«next_toggle»))
     && eachSender s (λ i. heldIfAny (meterAt s i .«current_start»))
@@ -113,8 +118,8 @@ meterStartFit s (Some t) = sinceStart s t
 
 unfoldable pub pastFit : Simulation → Bool
 pastFit s =
-    every (λ p. sinceStart s (p .«sent_time»)) (waitingPackets s)
-    && every (λ p. sinceStart s (p .«sent_time»)) (onLinePackets s)
+    eachLine s (λ l. every (λ p. sinceStart s (p .«sent_time»)) (waitingPackets s l))
+    && eachLine s (λ l. every (λ p. sinceStart s (p .«sent_time»)) (onLinePackets s l))
     && eachSender s (λ i. startedFit s (senderAt s i .state))
     && eachSender s (λ i. meterStartFit s (meterAt s i .«current_start»))
 
@@ -126,14 +131,21 @@ totalsFit s = eachSender s (λ i. totalFit (meterAt s i .«total_time»))
 unfoldable pub sumsFit : Simulation → Bool
 sumsFit s = eachSender s (λ i. sumFit (meterAt s i .records) (meterAt s i .«rtt_sum»))
 
--- meter records above sent less the sender's packets waiting and on the line
+-- meter records above sent less the sender's packets waiting and on the line, of every line
 abbrev pub countOf : ℕ → List Packet → ℕ
 countOf i [] = 0
 countOf i (p ∷ ps) = cond (eqb (p .sender) i) 1 0 + countOf i ps
 
+-- the sum of a number over the lines below l
+abbrev pub sumTo : ℕ → (ℕ → ℕ) → ℕ
+sumTo zero f = 0
+sumTo (suc l) f = sumTo l f + f l
+
+abbrev pub underWay : Simulation → ℕ → ℕ → ℕ
+underWay s i l = countOf i (waitingPackets s l) + countOf i (onLinePackets s l)
+
 unfoldable pub recordsFit : Simulation → Bool
-recordsFit s =
-    eachSender s (λ i. leb (meterAt s i .records + countOf i (waitingPackets s) + countOf i (onLinePackets s)) (senderAt s i .«packets_sent»))
+recordsFit s = eachSender s (λ i. leb (meterAt s i .records + sumTo (lineCount (s .network)) (underWay s i)) (senderAt s i .«packets_sent»))
 
 -- on-line due times that fall
 abbrev pub rising : List Transit → Bool
@@ -142,7 +154,7 @@ rising (x ∷ []) = true
 rising (x ∷ (y ∷ ys)) = le (x .due .0 .0) (y .due .0 .0) && rising (y ∷ ys)
 
 unfoldable pub dueFit : Simulation → Bool
-dueFit s = rising (onLineItems s)
+dueFit s = eachLine s (λ l. rising (onLineItems s l))
 
 -- sent or greatest ack above 2^24
 abbrev pub ackFit : SenderState → Bool
@@ -214,12 +226,12 @@ abbrev pub carries : Simulation → Waiting → Bool
 carries s x = eqb (x .bits .0) (packetBits (s .network) (x .packet) .0)
 
 unfoldable pub carriedFit : Simulation → Bool
-carriedFit s = every (carries s) (waitingItems s)
+carriedFit s = eachLine s (λ l. every (carries s) (waitingItems s l))
 
--- document 02, K5: four zero words, in the generator of the link, of a sender or of a toggler
+-- document 02, K5: four zero words, in the generator of a link, of a sender or of a toggler
 unfoldable pub wordsFit : Simulation → Bool
 wordsFit s =
-    not (allZero (s .line .rng))
+    eachLine s (λ l. not (allZero (lineAt s l .rng)))
     && eachSender s (λ i. not (allZero (senderAt s i .rng)))
     && eachSender s (λ i. not (allZero (togglerAt s i .rng)))
 

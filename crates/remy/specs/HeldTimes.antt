@@ -1,5 +1,5 @@
 -- The times that a state holds, by kind, and claims of each kind. Definitions only; no tick reads them, and theorems cite them.
-use Prim.Native.Nat.{ℕ, _<_}
+use Prim.Native.Nat.{ℕ, _*_, _<_}
 use mathlib.Core.Path.{_≡_}
 use mathlib.Core.List.{List, map, List·Memᴰ}
 use lib.ListN.{length}
@@ -11,21 +11,22 @@ use Rattle.sender.specs.declared.lossy.SenderState.the-variants as State
 use Rattle.link.specs.Ring.{places}
 use Rattle.toggler.specs.Queue.{queuePlaces}
 use Rattle.remy.specs.declared.simulation.Simulation.{Simulation}
-use Rattle.remy.specs.State.{senderAt, togglerAt, queuedAt, onLineItems}
+use Rattle.remy.specs.State.{lineCount, lineAt, senderAt, togglerAt, queuedAt, onLineItems}
 
 -- the arrays have all their places, as the code's arrays do
 pub record Full (s : Simulation) : Type 0 where
-  pub waiting : length (s .waiting) ≡ places
-  pub moving : length (s .«on_line») ≡ places
+  pub lines : length (s .lines) ≡ 2
+  pub waiting : length (s .waiting) ≡ places * 2
+  pub moving : length (s .«on_line») ≡ places * 2
   pub senders : length (s .senders) ≡ 16
   pub togglers : length (s .togglers) ≡ 16
   pub meters : length (s .meters) ≡ 16
   pub queue : length (s .queue) ≡ queuePlaces
 
--- a claim for each kind of held time: the earliest start, a due time, the timer and the toggle of sender i, a queued time (the clock was one)
+-- a claim for each kind of held time: the earliest start and a due time of line l, the timer and the toggle of sender i, a queued time (the clock was one)
 pub record Kinds : Type 1 where
-  pub free : Time → Type 0
-  pub due : Time → Type 0
+  pub free : ℕ → Time → Type 0
+  pub due : ℕ → Time → Type 0
   pub timer : ℕ → Time → Type 0
   pub toggle : ℕ → Time → Type 0
   pub queued : Time → Type 0
@@ -38,13 +39,13 @@ abbrev pub timerOf : SenderState → OptionTime
 timerOf State.WaitingForEnable = None
 timerOf (State.Enabled e) = e .timer
 
-abbrev pub dueTimes : Simulation → List Time
-dueTimes s = map (λ x. x .due) (onLineItems s)
+abbrev pub dueTimes : Simulation → ℕ → List Time
+dueTimes s l = map (λ x. x .due) (onLineItems s l)
 
 -- each time that the state holds has its kind's claim
 pub record Holds (k : Kinds) (s : Simulation) : Type 0 where
-  pub free : k .free (s .line .«earliest_transmit»)
-  pub due : (t : Time) → List·Memᴰ t (dueTimes s) → k .due t
+  pub free : (l : ℕ) → l < lineCount (s .network) → k .free l (lineAt s l .«earliest_transmit»)
+  pub due : (l : ℕ) → l < lineCount (s .network) → (t : Time) → List·Memᴰ t (dueTimes s l) → k .due l t
   pub timer : (i : ℕ) → i < s .network .senders → IfAny (k .timer i) (timerOf (senderAt s i .state))
   pub toggle : (i : ℕ) → i < s .network .senders → k .toggle i (togglerAt s i .«next_toggle»)
   pub queued : (j : ℕ) → j < queuePlaces → IfAny (k .queued) (queuedAt s j)

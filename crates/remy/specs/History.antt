@@ -15,6 +15,8 @@ use Rattle.remy.specs.declared.simulation.Name.the-variants as Name
 use Rattle.remy.specs.declared.simulation.TickRecord.{TickRecord}
 use Rattle.remy.specs.declared.simulation.Ticked.{Ticked}
 use Rattle.remy.specs.Build.{buildOf}
+use Rattle.remy.specs.State.{hasBack, link}
+use Rattle.remy.specs.Queue.{partOf}
 use Rattle.remy.specs.Tick.{tickOf}
 
 -- ---- calls
@@ -80,9 +82,10 @@ abbrev pub entries : (Mark → Bool) → List TickRecord → List Entry
 entries f [] = []
 entries f (r ∷ rs) = entryIf (f (r .mark)) (r .time) (r .packet) (entries f rs)
 
--- ---- marks: the letters of document 01
+-- ---- marks: the letters of documents 01 and 02
 
--- E on, D off, T timer, S sent and admitted, F sent and dropped full, L lost, C counted, O old, I ignored, - none, each by its ASCII code
+-- E on, D off, T timer, S sent and admitted, F sent and dropped full, L lost, C counted, O old, I ignored, - none; with a return line P admitted to it, Q dropped full there,
+-- N lost on it; each by its ASCII code
 abbrev pub letterOf : Mark → ℕ
 letterOf Mark.None = 45
 letterOf Mark.Enabled = 69
@@ -94,6 +97,9 @@ letterOf Mark.Lost = 76
 letterOf Mark.Counted = 67
 letterOf Mark.Old = 79
 letterOf Mark.Ignored = 73
+letterOf Mark.Passed = 80
+letterOf Mark.FullBack = 81
+letterOf Mark.LostBack = 78
 
 abbrev pub isS : Mark → Bool
 isS m = eqb (letterOf m) 83
@@ -113,31 +119,60 @@ isO m = eqb (letterOf m) 79
 abbrev pub isI : Mark → Bool
 isI m = eqb (letterOf m) 73
 
+abbrev pub isP : Mark → Bool
+isP m = eqb (letterOf m) 80
+
+abbrev pub isQ : Mark → Bool
+isQ m = eqb (letterOf m) 81
+
+abbrev pub isN : Mark → Bool
+isN m = eqb (letterOf m) 78
+
 -- ---- what the account reads in a history
 
 -- packets sent: in an S or F record
 abbrev pub sends : List TickRecord → List Entry
 sends h = entries (λ m. isS m || isF m) h
 
--- A packet is admitted in its S record,
-abbrev pub admissions : List TickRecord → List Entry
-admissions h = entries isS h
+-- A packet is admitted in its S record, and to a return line in its P record,
+abbrev pub admittedBy : ℕ → Mark → Bool
+admittedBy zero = isS
+admittedBy (suc l) = isP
 
--- starts in the record naming it as started
-abbrev pub starts : List TickRecord → List Entry
-starts [] = []
-starts (r ∷ rs) = entryIf true (r .time) (r .started) (starts rs)
+abbrev pub admissions : ℕ → List TickRecord → List Entry
+admissions l h = entries (admittedBy l) h
 
--- and leaves in its L, C, O or I record, each at that record's time.
-abbrev pub leaves : List TickRecord → List Entry
-leaves h = entries (λ m. isL m || (isC m || (isO m || isI m))) h
+-- starts in the record naming it as started, on the line whose part its record names,
+abbrev pub startsIn : ℕ → List TickRecord → List Entry
+startsIn part [] = []
+startsIn part (r ∷ rs) = entryIf (eqb (r .part) part) (r .time) (r .started) (startsIn part rs)
 
--- dropped full, lost, counted, old and ignored: the F, L, C, O and I marks
+abbrev pub starts : RemyNetwork → ℕ → List TickRecord → List Entry
+starts n l h = startsIn (partOf (n .senders) (link l)) h
+
+-- and leaves in its L, C, O or I record, each at that record's time. With a return line it leaves the first by L, P or Q, and the second by N, C, O or I.
+abbrev pub comesBack : Mark → Bool
+comesBack m = isC m || (isO m || isI m)
+
+abbrev pub leavesBy : RemyNetwork → ℕ → Mark → Bool
+leavesBy n zero m = isL m || cond (hasBack (n .back)) (isP m || isQ m) (comesBack m)
+leavesBy n (suc l) m = isN m || comesBack m
+
+abbrev pub leaves : RemyNetwork → ℕ → List TickRecord → List Entry
+leaves n l h = entries (leavesBy n l) h
+
+-- dropped full, lost, counted, old and ignored: the F, L, C, O and I marks; dropped full and lost on a return line: the Q and N marks
 abbrev pub droppedFull : List TickRecord → List PacketId
 droppedFull h = ids (entries isF h)
 
 abbrev pub lost : List TickRecord → List PacketId
 lost h = ids (entries isL h)
+
+abbrev pub droppedBack : List TickRecord → List PacketId
+droppedBack h = ids (entries isQ h)
+
+abbrev pub lostBack : List TickRecord → List PacketId
+lostBack h = ids (entries isN h)
 
 abbrev pub counted : List TickRecord → List PacketId
 counted h = ids (entries isC h)

@@ -12,8 +12,9 @@ use Rattle.remy.specs.declared.simulation.Mark.{Mark}
 use Rattle.remy.specs.declared.simulation.Name.{Name}
 use Rattle.remy.specs.declared.simulation.Name.the-variants as Name
 use Rattle.remy.specs.declared.simulation.TickRecord.{TickRecord}
-use Rattle.remy.specs.State.{senderPart, senderAt}
-use Rattle.remy.specs.History.{Call, after, history, Fresh, ids, entries, isS, isF, isL, isC, isO, isI}
+use Rattle.remy.specs.State.{lineCount, link, senderPart, senderAt}
+use Rattle.remy.specs.Queue.{partOf}
+use Rattle.remy.specs.History.{Call, after, history, Fresh, ids, entries, isS, isF, isL, isP, isQ, isN, comesBack, leavesBy}
 use Rattle.remy.specs.Account.{total, ofSender}
 
 -- ---- the packet that a record names
@@ -23,7 +24,7 @@ abbrev pub isSend : Mark → Bool
 isSend m = isS m || isF m
 
 abbrev pub isLeave : Mark → Bool
-isLeave m = isL m || (isC m || (isO m || isI m))
+isLeave m = isL m || (isN m || (isP m || (isQ m || comesBack m)))
 
 -- a packet of a sender of the network
 pub record NamesPacket (n : RemyNetwork) (name : Name) : Type 0 where
@@ -32,16 +33,22 @@ pub record NamesPacket (n : RemyNetwork) (name : Name) : Type 0 where
   pub same : name ≡ Name.Packet sender seq
   pub inside : sender < n .senders
 
+-- a line of the network whose link is this part
+pub record OnLine (n : RemyNetwork) (part : ℕ) : Type 0 where
+  pub line : ℕ
+  pub there : line < lineCount n
+  pub same : part ≡ partOf (n .senders) (link line)
+
 -- n is the network that was built
 pub record WellNamed (n : RemyNetwork) (r : TickRecord) : Type 0 where
   -- an S or F record names a packet of its part's own sender
   pub sent : isSend (r .mark) ≡ true → (p : NamesPacket n (r .packet)) × (r .part ≡ senderPart (p .sender))
-  -- an L, C, O or I record is the link's, part 0, and names a packet
-  pub left : isLeave (r .mark) ≡ true → NamesPacket n (r .packet) × (r .part ≡ 0)
+  -- an L, C, O, I, P, Q or N record is the part of the link whose line the packet leaves by it, and names the packet
+  pub left : isLeave (r .mark) ≡ true → NamesPacket n (r .packet) × ((o : OnLine n (r .part)) × (leavesBy n (o .line) (r .mark) ≡ true))
   -- a record with another mark names none
   pub other : isSend (r .mark) ≡ false → isLeave (r .mark) ≡ false → r .packet ≡ Name.None
-  -- and a record that names a packet as started is the link's
-  pub starts : (r .started ≡ Name.None) ⊎ (NamesPacket n (r .started) × (r .part ≡ 0))
+  -- and a record that names a packet as started is a link's
+  pub starts : (r .started ≡ Name.None) ⊎ (NamesPacket n (r .started) × OnLine n (r .part))
 
 -- every record of every history
 abbrev pub MarksName : Type 0
@@ -60,7 +67,7 @@ ownMark f i r = f (r .mark) && eqb (r .part) (senderPart i)
 
 -- n is the network that was built, h the history, s the last state
 pub record MarksCounted (n : RemyNetwork) (h : List TickRecord) (s : Simulation) : Type 0 where
-  -- with any of the marks S, F, L, C, O and I: as many records as packets
+  -- with any of the marks S, F, L, C, O, I, P, Q and N: as many records as packets
   pub marks : (f : Mark → Bool) → ((m : Mark) → f m ≡ true → (isSend m || isLeave m) ≡ true) → recordsWith (λ r. f (r .mark)) h ≡ length (entries f h)
   -- with S or F: as many records of a sender's part as packets of that sender
   pub own : (f : Mark → Bool) → ((m : Mark) → f m ≡ true → isSend m ≡ true) → (i : ℕ) → recordsWith (ownMark f i) h ≡ total (ofSender i) (ids (entries f h))

@@ -1,4 +1,4 @@
--- Document 01, "Stops", rows 1 to 7: the ranges of a network. Definitions only. Ranges include both ends; NaN is in none; of several the lowest.
+-- Document 01, "Stops", rows 1 to 7, and document 02, K4, 20: the ranges of a network. Definitions only. Ranges include both ends; NaN is in none; of several the first tested.
 use Prim.Native.Nat.{ℕ, zero, suc}
 use mathlib.Core.Bool.{Bool, true, false, _&&_, cond}
 use mathlib.Core.List.{List}
@@ -11,8 +11,11 @@ use Rattle.rand.specs.declared.distribution.ContinuousDistribution.{ContinuousD
 use Rattle.rand.specs.declared.distribution.ContinuousDistribution.the-variants.{Always, Uniform}
 use Rattle.link.specs.declared.link.Limit.{Limit}
 use Rattle.link.specs.declared.link.Limit.the-variants as Limit
+use Rattle.link.specs.declared.link.LineValues.{LineValues}
 use Rattle.sender.specs.declared.lossy.Policy.{Policy}
 use Rattle.sender.specs.declared.lossy.Policy.the-variants.{Held, Grown, Timed}
+use Rattle.remy.specs.declared.network.ReturnLine.{ReturnLine}
+use Rattle.remy.specs.declared.network.ReturnLine.the-variants as Back
 use Rattle.remy.specs.declared.network.RemyNetwork.{RemyNetwork}
 
 -- a test of every number below n
@@ -64,16 +67,24 @@ policyFit (Held w) = windowFit w
 policyFit (Grown first most) = windowFit first && windowFit most && leb first most
 policyFit (Timed most gap) = windowFit most && gapFit gap
 
--- the number of the lowest cause, or 0
+-- 20: a return line outside the ranges of 1 to 4
+abbrev pub valuesFit : LineValues → Bool
+valuesFit v = delayFit (v .delay) && rateFit (v .rate) && lossFit (v .loss) && limitFit (v .limit)
+
+abbrev pub backFit : ReturnLine → Bool
+backFit Back.None = true
+backFit (Back.Line v) = valuesFit v
+
+-- the number of the first cause, or 0; 20 is tested after 7
 unfoldable pub networkStop : RemyNetwork → ℕ
 networkStop n =
-    cond (delayFit (n .delay))
-    (cond (rateFit (n .rate))
-    (cond (lossFit (n .loss))
-    (cond (limitFit (n .limit))
+    cond (delayFit (n .line .delay))
+    (cond (rateFit (n .line .rate))
+    (cond (lossFit (n .line .loss))
+    (cond (limitFit (n .line .limit))
     (cond (sizesFit (n .bits) (n .senders))
     (cond (timesFit (n .on) && timesFit (n .off))
-    (cond (policyFit (n .policy)) 0 7)
+    (cond (policyFit (n .policy)) (cond (backFit (n .back)) 0 20) 7)
     6)
     5)
     4)

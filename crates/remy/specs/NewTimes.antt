@@ -22,20 +22,21 @@ use Rattle.toggler.specs.Toggler.{nextToggle, toggleDraw}
 use Rattle.remy.specs.declared.simulation.Next.{Next}
 use Rattle.remy.specs.declared.simulation.Next.the-variants as Next
 use Rattle.remy.specs.declared.simulation.Simulation.{Simulation}
-use Rattle.remy.specs.State.{Role, link, sender, toggler, nobody, roleOf, senderAt, togglerAt, firstOf, frontOf}
+use Rattle.remy.specs.State.{valuesOf, Role, link, bouncer, sender, toggler, nobody, roleIn, lineAt, senderAt, togglerAt, firstOf, frontOf}
 use Rattle.remy.specs.Fit.{fit}
 
--- the link, after the packet that leaves: where a packet starts (none at 13), the earliest start clock + bits/rate and the due time clock + delay
-abbrev pub startTimes : Simulation → Line → List Time
-startTimes s l =
+-- the link of line l, after the packet that leaves: where a packet starts (none at 13), the earliest start clock + bits/rate and the due time clock + delay
+abbrev pub startTimes : Simulation → ℕ → Line → List Time
+startTimes s l x =
     let clock = s .head .clock in
-    cond (isFree l clock)
-    (cond (leb places (l .«on_line» .count)) []
-    (nextStart clock (firstOf s .bits) (rateOf (s .network .rate)) ∷ (dueTime clock (spanOf (s .network .delay)) ∷ [])))
+    let v = valuesOf (s .network) l in
+    cond (isFree x clock)
+    (cond (leb places (x .«on_line» .count)) []
+    (nextStart clock (firstOf s l .bits) (rateOf (v .rate)) ∷ (dueTime clock (spanOf (v .delay)) ∷ [])))
     []
 
-abbrev pub linkTimes : Simulation → List Time
-linkTimes s = startTimes s (tryDeliver (s .line) (s .head .clock) (frontOf s) (s .network .loss) .line)
+abbrev pub linkTimes : Simulation → ℕ → List Time
+linkTimes s l = startTimes s l (tryDeliver (lineAt s l) (s .head .clock) (frontOf s l) (valuesOf (s .network) l .loss) .line)
 
 -- the timer clock + gap of a timed sender
 abbrev pub gapTimes : Policy → Time → List Time
@@ -62,7 +63,8 @@ togglerTimes s i =
     cond (eqb (d .number) 0) (nextToggle (s .head .clock) (d .value) ∷ []) []
 
 abbrev pub partTimes : Simulation → Role → List Time
-partTimes s link = linkTimes s
+partTimes s (link l) = linkTimes s l
+partTimes s bouncer = []
 partTimes s (sender i) = senderTimes s i (senderAt s i .state)
 partTimes s (toggler i) = togglerTimes s i
 partTimes s nobody = []
@@ -70,7 +72,7 @@ partTimes s nobody = []
 -- none in an idle state, and none where the clock is above 2^40 (10)
 abbrev pub timesNext : Simulation → Next → List Time
 timesNext s Next.None = []
-timesNext s (Next.Part k) = cond (lt (power 40) (s .head .clock .0 .0)) [] (partTimes s (roleOf (s .network .senders) k))
+timesNext s (Next.Part k) = cond (lt (power 40) (s .head .clock .0 .0)) [] (partTimes s (roleIn (s .network) k))
 
 -- none in an unfit state (9)
 unfoldable pub newTimes : Simulation → List Time

@@ -1,6 +1,6 @@
 -- The state of a simulation: its parts by number, what stands for an element that is not there, and one setter for each field. Definitions only.
-use Prim.Native.Nat.{ℕ, _+_, _*_, _-_, _/_, _%_}
-use mathlib.Core.Bool.{false, cond}
+use Prim.Native.Nat.{ℕ, zero, suc, _+_, _*_, _-_, _/_, _%_}
+use mathlib.Core.Bool.{Bool, true, false, _&&_, cond}
 use mathlib.Core.List.{List, [], _∷_, map}
 use lib.ListN.{getD, set}
 use lib.Dec.{ltb, eqb}
@@ -16,20 +16,44 @@ use Rattle.link.specs.declared.packet.Packet.{Packet}
 use Rattle.link.specs.declared.packet.Waiting.{Waiting}
 use Rattle.link.specs.declared.packet.Transit.{Transit}
 use Rattle.link.specs.declared.link.Line.{Line}
+use Rattle.link.specs.declared.link.LineValues.{LineValues}
 use Rattle.sender.specs.declared.lossy.SenderState.the-variants as State
 use Rattle.sender.specs.declared.lossy.LossySender.{LossySender}
 use Rattle.toggler.specs.declared.toggler.Toggler.{Toggler}
 use Rattle.toggler.specs.declared.tick_queue.Queued.{Queued}
-use Rattle.link.specs.Ring.{items}
+use Rattle.link.specs.Ring.{slotOf, items}
 use Rattle.toggler.specs.Queue.{noQueued}
+use Rattle.remy.specs.declared.network.ReturnLine.{ReturnLine}
+use Rattle.remy.specs.declared.network.ReturnLine.the-variants as Back
 use Rattle.remy.specs.declared.network.RemyNetwork.{RemyNetwork}
 use Rattle.remy.specs.declared.simulation.Head.{Head}
 use Rattle.remy.specs.declared.simulation.Simulation.{Simulation}
 
--- ---- parts: link 0, sender i 1 + 2i, toggler i 2 + 2i
+-- ---- lines: the first is line 0, and a return line (document 02, K4) is line 1
 
+abbrev pub hasBack : ReturnLine → Bool
+hasBack Back.None = false
+hasBack (Back.Line v) = true
+
+-- how many lines a network has
+abbrev pub lineCount : RemyNetwork → ℕ
+lineCount n = cond (hasBack (n .back)) 2 1
+
+-- the values of line l
+abbrev pub backValues : LineValues → ReturnLine → LineValues
+backValues first Back.None = first
+backValues first (Back.Line v) = v
+
+abbrev pub valuesOf : RemyNetwork → ℕ → LineValues
+valuesOf n zero = n .line
+valuesOf n (suc l) = backValues (n .line) (n .back)
+
+-- ---- parts: link 0, sender i 1 + 2i, toggler i 2 + 2i; with a return line and n senders the bouncer 2n + 1 and its link 2n + 2
+
+-- the link of line l
 pub data Role : Type 0 where
-  link : Role
+  link : ℕ → Role
+  bouncer : Role
   sender : ℕ → Role
   toggler : ℕ → Role
   nobody : Role
@@ -40,11 +64,15 @@ senderPart i = 1 + 2 * i
 abbrev pub togglerPart : ℕ → ℕ
 togglerPart i = 2 + 2 * i
 
--- the role of part k among n senders
-unfoldable pub roleOf : ℕ → ℕ → Role
-roleOf n k =
-    cond (eqb k 0) link
-    (cond (ltb ((k - 1) / 2) n) (cond (eqb (k % 2) 1) (sender ((k - 1) / 2)) (toggler ((k - 1) / 2))) nobody)
+-- the role of part k among n senders, with a return line or without
+unfoldable pub roleOf : ℕ → Bool → ℕ → Role
+roleOf n back k =
+    cond (eqb k 0) (link 0)
+    (cond (ltb ((k - 1) / 2) n) (cond (eqb (k % 2) 1) (sender ((k - 1) / 2)) (toggler ((k - 1) / 2)))
+    (cond (back && eqb ((k - 1) / 2) n) (cond (eqb (k % 2) 1) bouncer (link 1)) nobody))
+
+abbrev pub roleIn : RemyNetwork → ℕ → Role
+roleIn n k = roleOf (n .senders) (hasBack (n .back)) k
 
 -- ---- elements; each default is what the code's arrays give where nothing stands
 
@@ -63,6 +91,16 @@ noTransit = record { packet = noPacket; due = noTime }
 abbrev pub noWords : Rng
 noWords = record { s0 = 0; s1 = 0; s2 = 0; s3 = 0 }
 
+abbrev pub noLine : Line
+noLine =
+    record {
+      «earliest_transmit» = noTime;
+      «buffer_contains» = amountOf 0;
+      waiting = record { start = 0; count = 0 };
+      «on_line» = record { start = 0; count = 0 };
+      rng = noWords;
+    }
+
 abbrev pub noSender : LossySender
 noSender = record { «packets_sent» = 0; state = State.WaitingForEnable; rng = noWords }
 
@@ -71,6 +109,9 @@ noToggler = record { enabled = false; «next_toggle» = noTime; rng = noWords }
 
 abbrev pub noMeter : AverageFlowMeter
 noMeter = record { «total_time» = spanOf nan; «current_start» = None; total = amountOf 0; records = 0; «rtt_sum» = spanOf nan }
+
+abbrev pub lineAt : Simulation → ℕ → Line
+lineAt s l = getD (s .lines) l noLine
 
 abbrev pub senderAt : Simulation → ℕ → LossySender
 senderAt s i = getD (s .senders) i noSender
@@ -84,25 +125,25 @@ meterAt s i = getD (s .meters) i noMeter
 abbrev pub queuedAt : Simulation → ℕ → OptionTime
 queuedAt s k = getD (s .queue) k noQueued .time
 
--- the first packet that waits, and the first on the line
-abbrev pub firstOf : Simulation → Waiting
-firstOf s = getD (s .waiting) (s .line .waiting .start) noWaiting
+-- the first packet that waits for line l, and the first on it
+abbrev pub firstOf : Simulation → ℕ → Waiting
+firstOf s l = getD (s .waiting) (slotOf l (lineAt s l .waiting .start)) noWaiting
 
-abbrev pub frontOf : Simulation → Transit
-frontOf s = getD (s .«on_line») (s .line .«on_line» .start) noTransit
+abbrev pub frontOf : Simulation → ℕ → Transit
+frontOf s l = getD (s .«on_line») (slotOf l (lineAt s l .«on_line» .start)) noTransit
 
--- the packets that wait, and those on the line, in order
-abbrev pub waitingItems : Simulation → List Waiting
-waitingItems s = items noWaiting (s .waiting) (s .line .waiting)
+-- the packets that wait for line l, and those on it, in order
+abbrev pub waitingItems : Simulation → ℕ → List Waiting
+waitingItems s l = items noWaiting (s .waiting) l (lineAt s l .waiting)
 
-abbrev pub waitingPackets : Simulation → List Packet
-waitingPackets s = map (λ x. x .packet) (waitingItems s)
+abbrev pub waitingPackets : Simulation → ℕ → List Packet
+waitingPackets s l = map (λ x. x .packet) (waitingItems s l)
 
-abbrev pub onLineItems : Simulation → List Transit
-onLineItems s = items noTransit (s .«on_line») (s .line .«on_line»)
+abbrev pub onLineItems : Simulation → ℕ → List Transit
+onLineItems s l = items noTransit (s .«on_line») l (lineAt s l .«on_line»)
 
-abbrev pub onLinePackets : Simulation → List Packet
-onLinePackets s = map (λ x. x .packet) (onLineItems s)
+abbrev pub onLinePackets : Simulation → ℕ → List Packet
+onLinePackets s l = map (λ x. x .packet) (onLineItems s l)
 
 -- Each sender has its own packet bits (document 02, K1): those of sender i, and those of a packet's sender.
 abbrev pub senderBits : RemyNetwork → ℕ → Information
@@ -123,7 +164,7 @@ withHead s x =
     record {
       network = s .network;
       head = x;
-      line = s .line;
+      lines = s .lines;
       waiting = s .waiting;
       «on_line» = s .«on_line»;
       senders = s .senders;
@@ -132,12 +173,12 @@ withHead s x =
       queue = s .queue;
     }
 
-abbrev pub withLine : Simulation → Line → Simulation
-withLine s x =
+abbrev pub withLines : Simulation → List Line → Simulation
+withLines s x =
     record {
       network = s .network;
       head = s .head;
-      line = x;
+      lines = x;
       waiting = s .waiting;
       «on_line» = s .«on_line»;
       senders = s .senders;
@@ -151,7 +192,7 @@ withWaiting s x =
     record {
       network = s .network;
       head = s .head;
-      line = s .line;
+      lines = s .lines;
       waiting = x;
       «on_line» = s .«on_line»;
       senders = s .senders;
@@ -165,7 +206,7 @@ withOnLine s x =
     record {
       network = s .network;
       head = s .head;
-      line = s .line;
+      lines = s .lines;
       waiting = s .waiting;
       «on_line» = x;
       senders = s .senders;
@@ -179,7 +220,7 @@ withSenders s x =
     record {
       network = s .network;
       head = s .head;
-      line = s .line;
+      lines = s .lines;
       waiting = s .waiting;
       «on_line» = s .«on_line»;
       senders = x;
@@ -193,7 +234,7 @@ withTogglers s x =
     record {
       network = s .network;
       head = s .head;
-      line = s .line;
+      lines = s .lines;
       waiting = s .waiting;
       «on_line» = s .«on_line»;
       senders = s .senders;
@@ -207,7 +248,7 @@ withMeters s x =
     record {
       network = s .network;
       head = s .head;
-      line = s .line;
+      lines = s .lines;
       waiting = s .waiting;
       «on_line» = s .«on_line»;
       senders = s .senders;
@@ -221,7 +262,7 @@ withQueue s x =
     record {
       network = s .network;
       head = s .head;
-      line = s .line;
+      lines = s .lines;
       waiting = s .waiting;
       «on_line» = s .«on_line»;
       senders = s .senders;
@@ -231,6 +272,9 @@ withQueue s x =
     }
 
 -- one element anew
+abbrev pub withLine : Simulation → ℕ → Line → Simulation
+withLine s l x = withLines s (set (s .lines) l x)
+
 abbrev pub withSender : Simulation → ℕ → LossySender → Simulation
 withSender s i x = withSenders s (set (s .senders) i x)
 

@@ -1,5 +1,5 @@
--- Document 01, "Tick and history" and the rows 9 to 13 of "Stops": the tick. Definitions only.
-use Prim.Native.Nat.{ℕ}
+-- Document 01, "Tick and history" and the rows 9 to 13 of "Stops", and document 02, K4: the tick. Definitions only.
+use Prim.Native.Nat.{ℕ, zero, suc}
 use mathlib.Core.Bool.{Bool, true, false, cond}
 use mathlib.Core.List.{List, [], _∷_}
 use lib.ListN.{set}
@@ -26,7 +26,7 @@ use Rattle.sender.specs.declared.lossy.Heard.{Heard}
 use Rattle.sender.specs.declared.lossy.Heard.the-variants as Heard
 use Rattle.sender.specs.declared.lossy.Returned.{Returned}
 use Rattle.toggler.specs.declared.toggler.Toggled.{Toggled}
-use Rattle.link.specs.Ring.{placeAfter}
+use Rattle.link.specs.Ring.{slotOf, placeAfter}
 use Rattle.link.specs.Link.{receiveOf, tryDeliver, tryTransmit}
 use Rattle.sender.specs.Sender.{timerDue, tickTimer, tickSend, enabledOf, disabledOf, returnedOf}
 use Rattle.toggler.specs.Toggler.{toggleOf}
@@ -39,7 +39,8 @@ use Rattle.remy.specs.declared.simulation.Name.{Name}
 use Rattle.remy.specs.declared.simulation.Name.the-variants as Name
 use Rattle.remy.specs.declared.simulation.TickRecord.{TickRecord}
 use Rattle.remy.specs.declared.simulation.Ticked.{Ticked}
-use Rattle.remy.specs.State.{Role, link, sender, toggler, nobody, roleOf, senderAt, togglerAt, meterAt, firstOf, frontOf, packetBits, withLine, withWaiting, withOnLine, withSender, withToggler, withMeter}
+use Rattle.remy.specs.declared.network.RemyNetwork.{RemyNetwork}
+use Rattle.remy.specs.State.{hasBack, valuesOf, Role, link, bouncer, sender, toggler, nobody, roleIn, lineAt, senderAt, togglerAt, meterAt, firstOf, frontOf, packetBits, withLine, withWaiting, withOnLine, withSender, withToggler, withMeter}
 use Rattle.remy.specs.Queue.{partOf, requeue, picked}
 use Rattle.remy.specs.Fit.{fit}
 
@@ -54,15 +55,31 @@ emptyRecord = record { time = timeOf zeroF; part = 0; mark = Mark.None; packet =
 
 -- a record at the clock
 abbrev pub recordAt : Simulation → Role → Mark → Name → Name → TickRecord
-recordAt s role mark packet started = record { time = s .head .clock; part = partOf role; mark = mark; packet = packet; started = started }
+recordAt s role mark packet started = record { time = s .head .clock; part = partOf (s .network .senders) role; mark = mark; packet = packet; started = started }
 
 abbrev pub marked : TickRecord → Mark → TickRecord
 marked r mark = record { time = r .time; part = r .part; mark = mark; packet = r .packet; started = r .started }
 
+-- ---- marks of the lines: S, F and L on the first, P, Q and N on a return line
+
+abbrev pub admittedMark : ℕ → Mark
+admittedMark zero = Mark.Sent
+admittedMark (suc l) = Mark.Passed
+
+abbrev pub fullMark : ℕ → Mark
+fullMark zero = Mark.Full
+fullMark (suc l) = Mark.FullBack
+
+abbrev pub lostMark : ℕ → Mark
+lostMark zero = Mark.Lost
+lostMark (suc l) = Mark.LostBack
+
 -- ---- what a part does: a number, the record so far, the state, and its messages
 
+-- a packet to the link of a line, to the bouncer, and to its sender; on or off to a sender
 pub data Message : Type 0 where
-  arrives : Packet → Message
+  arrives : ℕ → Packet → Message
+  bounces : Packet → Message
   returns : Packet → Message
   switches : ℕ → Bool → Message
 
@@ -77,7 +94,7 @@ stopped s n = record { number = n; note = emptyRecord; simulation = s; messages 
 
 -- Link: first the packet that leaves, then the packet that starts.
 
--- the packet that started, put at the end of the line
+-- the packet that started, put into a slot
 abbrev pub putOnLine : Simulation → ℕ → Begun → Simulation
 putOnLine s at Begun.Nobody = s
 putOnLine s at (Begun.Starts x) = withOnLine s (set (s .«on_line») at x)
@@ -86,31 +103,37 @@ abbrev pub begunName : Begun → Name
 begunName Begun.Nobody = Name.None
 begunName (Begun.Starts x) = named (x .packet)
 
-abbrev pub leftRecord : Simulation → Left → Name → TickRecord
-leftRecord s Left.Nobody started = recordAt s link Mark.None Name.None started
-leftRecord s (Left.Lost p) started = recordAt s link Mark.Lost (named p) started
-leftRecord s (Left.Out p) started = recordAt s link Mark.None (named p) started
+abbrev pub leftRecord : Simulation → ℕ → Left → Name → TickRecord
+leftRecord s l Left.Nobody started = recordAt s (link l) Mark.None Name.None started
+leftRecord s l (Left.Lost p) started = recordAt s (link l) (lostMark l) (named p) started
+leftRecord s l (Left.Out p) started = recordAt s (link l) Mark.None (named p) started
 
-abbrev pub leftMessages : Left → List Message
-leftMessages Left.Nobody = []
-leftMessages (Left.Lost p) = []
-leftMessages (Left.Out p) = returns p ∷ []
+-- Where a packet that leaves line l goes: to its sender, but from the first line to the bouncer where there is a return line.
+abbrev pub toBouncer : RemyNetwork → ℕ → Bool
+toBouncer n zero = hasBack (n .back)
+toBouncer n (suc l) = false
 
-abbrev pub linkWith : Simulation → Delivered → Transmitted → Acted
-linkWith s d t =
+abbrev pub leftMessages : RemyNetwork → ℕ → Left → List Message
+leftMessages n l Left.Nobody = []
+leftMessages n l (Left.Lost p) = []
+leftMessages n l (Left.Out p) = cond (toBouncer n l) (bounces p) (returns p) ∷ []
+
+abbrev pub linkWith : Simulation → ℕ → Delivered → Transmitted → Acted
+linkWith s l d t =
     cond (eqb (t .number) 0)
     (record {
       number = 0;
-      note = leftRecord s (d .left) (begunName (t .begun));
-      simulation = withLine (putOnLine s (placeAfter (d .line .«on_line»)) (t .begun)) (t .line);
-      messages = leftMessages (d .left);
+      note = leftRecord s l (d .left) (begunName (t .begun));
+      simulation = withLine (putOnLine s (slotOf l (placeAfter (d .line .«on_line»))) (t .begun)) l (t .line);
+      messages = leftMessages (s .network) l (d .left);
     })
     (stopped s (t .number))
 
-unfoldable pub linkActs : Simulation → Acted
-linkActs s =
-    let d = tryDeliver (s .line) (s .head .clock) (frontOf s) (s .network .loss) in
-    linkWith s d (tryTransmit (d .line) (s .head .clock) (firstOf s) (spanOf (s .network .delay)) (rateOf (s .network .rate)))
+unfoldable pub linkActs : Simulation → ℕ → Acted
+linkActs s l =
+    let v = valuesOf (s .network) l in
+    let d = tryDeliver (lineAt s l) (s .head .clock) (frontOf s l) (v .loss) in
+    linkWith s l d (tryTransmit (d .line) (s .head .clock) (firstOf s l) (spanOf (v .delay)) (rateOf (v .rate)))
 
 -- Sender: a timer equal to the clock goes first and alone; else one packet.
 
@@ -133,7 +156,7 @@ sendWith s i t =
       number = 0;
       note = recordAt s (sender i) Mark.None (named (t .packet)) Name.None;
       simulation = withSender s i (enabledSender (senderAt s i) (t .«packets_sent») (t .enabled));
-      messages = arrives (t .packet) ∷ [];
+      messages = arrives 0 (t .packet) ∷ [];
     })
     (stopped s (t .number))
 
@@ -164,9 +187,10 @@ togglerWith s i t =
 unfoldable pub togglerActs : Simulation → ℕ → Acted
 togglerActs s i = togglerWith s i (toggleOf (togglerAt s i) (s .head .clock) (s .network .on) (s .network .off))
 
--- In a fit state the next part is there.
+-- In a fit state the next part is there, and is not the bouncer, which has no next time.
 unfoldable pub actsOf : Simulation → Role → Acted
-actsOf s link = linkActs s
+actsOf s (link l) = linkActs s l
+actsOf s bouncer = stopped s 9
 actsOf s (sender i) = senderActs s i
 actsOf s (toggler i) = togglerActs s i
 actsOf s nobody = stopped s 9
@@ -181,13 +205,14 @@ pub data Outcome : Type 0 where
 abbrev pub waitsWith : Simulation → Packet → Waiting
 waitsWith s p = record { packet = p; bits = packetBits (s .network) p }
 
--- S sent and admitted, F sent and dropped full; 12 where the link stops
-abbrev pub arriveWith : TickRecord → Simulation → Packet → Arrival → Outcome
-arriveWith r s p a =
+-- S sent and admitted, F sent and dropped full, P and Q on a return line; 12 where the link stops
+abbrev pub arriveWith : TickRecord → Simulation → ℕ → Packet → Arrival → Outcome
+arriveWith r s l p a =
     cond (eqb (a .number) 0)
     (cond (a .admitted)
-    (moves (marked r Mark.Sent) (requeue (withLine (withWaiting s (set (s .waiting) (placeAfter (s .line .waiting)) (waitsWith s p))) (a .line)) link))
-    (moves (marked r Mark.Full) (requeue s link)))
+    (moves (marked r (admittedMark l))
+    (requeue (withLine (withWaiting s (set (s .waiting) (slotOf l (placeAfter (lineAt s l .waiting))) (waitsWith s p))) l (a .line)) (link l)))
+    (moves (marked r (fullMark l)) (requeue s (link l))))
     (stops (a .number))
 
 -- C counted, O old, I ignored; a counted packet goes into the meter, with the time since it was sent
@@ -220,15 +245,28 @@ switchWith r s i on =
     (requeue (withMeter (withSender s i (switchedSender s i on)) i (switchedOf (meterAt s i) on (s .head .clock) .meter)) (sender i))
 
 unfoldable pub deliver : TickRecord → Simulation → Message → Outcome
-deliver r s (arrives p) = arriveWith r s p (receiveOf (s .network .limit) (s .line) (packetBits (s .network) p))
+deliver r s (arrives l p) = arriveWith r s l p (receiveOf (valuesOf (s .network) l .limit) (lineAt s l) (packetBits (s .network) p))
+deliver r s (bounces p) = moves r (requeue s bouncer)
 deliver r s (returns p) = returnWith r s (p .sender) p (returnedOf (s .network .policy) (senderAt s (p .sender)) p)
 deliver r s (switches i on) = switchWith r s i on
 
--- messages first in, first out
+-- each in its order
+abbrev pub deliverEach : Outcome → List Message → Outcome
+deliverEach o [] = o
+deliverEach (stops n) (m ∷ ms) = stops n
+deliverEach (moves r s) (m ∷ ms) = deliverEach (deliver r s m) ms
+
+-- what receivers answer: the bouncer passes its packet on to the second link, source and destination swapped
+abbrev pub answers : List Message → List Message
+answers [] = []
+answers (arrives l p ∷ ms) = answers ms
+answers (bounces p ∷ ms) = arrives 1 p ∷ answers ms
+answers (returns p ∷ ms) = answers ms
+answers (switches i on ∷ ms) = answers ms
+
+-- messages first in, first out: those of the part, then those of their receivers, which are answered by none
 abbrev pub deliverAll : Outcome → List Message → Outcome
-deliverAll o [] = o
-deliverAll (stops n) (m ∷ ms) = stops n
-deliverAll (moves r s) (m ∷ ms) = deliverAll (deliver r s m) ms
+deliverAll o ms = deliverEach (deliverEach o ms) (answers ms)
 
 -- ---- the tick
 
@@ -237,7 +275,7 @@ abbrev pub pickAgain : Outcome → Outcome
 pickAgain (stops n) = stops n
 pickAgain (moves r s) = moves r (picked s)
 
--- A tick runs that part, requeues it, delivers its message, requeues the receiver, picks again.
+-- A tick runs that part, requeues it, delivers its messages, requeues each receiver, picks again.
 abbrev pub outcomeWith : Role → Acted → Outcome
 outcomeWith role a = cond (eqb (a .number) 0) (pickAgain (deliverAll (moves (a .note) (requeue (a .simulation) role)) (a .messages))) (stops (a .number))
 
@@ -255,7 +293,7 @@ ticked s (moves r m) = record { number = 0; moved = true; note = r; simulation =
 -- Idle (no next component): number 0, "not moved". 10: clock above 2^40 s.
 abbrev pub tickNext : Simulation → Next → Ticked
 tickNext s Next.None = unmoved s 0
-tickNext s (Next.Part k) = cond (lt (power 40) (s .head .clock .0 .0)) (unmoved s 10) (ticked s (outcomeOf s (roleOf (s .network .senders) k)))
+tickNext s (Next.Part k) = cond (lt (power 40) (s .head .clock .0 .0)) (unmoved s 10) (ticked s (outcomeOf s (roleIn (s .network) k)))
 
 -- A tick tests 9, then idle, then 10, then runs and stops at the first of 8, 11, 12 and 13 that it meets.
 unfoldable pub tickOf : Simulation → Ticked

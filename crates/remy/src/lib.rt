@@ -6,6 +6,7 @@ pub mod network;
 pub mod simulation;
 
 pub use network::RemyNetwork;
+pub use network::ReturnLine;
 pub use simulation::Built;
 pub use simulation::Head;
 pub use simulation::Mark;

@@ -20,18 +20,20 @@ pub struct Head {
     pub next: Next,
 }
 
-// A simulation: its network, the clock and the next part, the link with the packets that wait and
-// those on the line, the senders, togglers and meters, and the queue of the parts' times.
+// A simulation: its network, the clock and the next part, the two lines with the packets that wait
+// and those on the line, the senders, togglers and meters, and the queue of the parts' times. Line 1
+// is the return line; the packets of line l lie in the places from 512 l on. Where the network has no
+// return line, nobody reads what is held for it.
 pub struct Simulation {
     pub network: RemyNetwork,
     pub head: Head,
-    pub line: Line,
-    pub waiting: [Waiting; 512],
-    pub on_line: [Transit; 512],
+    pub lines: [Line; 2],
+    pub waiting: [Waiting; 1024],
+    pub on_line: [Transit; 1024],
     pub senders: [LossySender; 16],
     pub togglers: [Toggler; 16],
     pub meters: [AverageFlowMeter; 16],
-    pub queue: [Queued; 33],
+    pub queue: [Queued; 35],
 }
 
 // What a tick did, beside a packet that it started.
@@ -46,6 +48,9 @@ pub enum Mark {
     Counted,
     Old,
     Ignored,
+    Passed,
+    FullBack,
+    LostBack,
 }
 
 // A packet by its sender and its sequence number, or none.

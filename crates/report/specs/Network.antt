@@ -7,6 +7,7 @@ use Rattle.link.specs.declared.link.Limit.{Limit}
 use Rattle.link.specs.declared.link.Limit.the-variants as Limit
 use Rattle.sender.specs.declared.lossy.Policy.{Policy}
 use Rattle.sender.specs.declared.lossy.Policy.the-variants as Policy
+use Rattle.remy.specs.declared.network.ReturnLine.the-variants as Back
 use Rattle.remy.specs.declared.network.RemyNetwork.{RemyNetwork}
 use Rattle.description.specs.declared.Description.{Description}
 use Rattle.description.specs.declared.Limit as L
@@ -33,13 +34,12 @@ policyOf (GivenPolicy.Held w) = Policy.Held w
 policyOf (GivenPolicy.Grown f m) = Policy.Grown f m
 policyOf (GivenPolicy.Timed m gap) = Policy.Timed m (doubleOf gap)
 
+-- a description has no return line
 abbrev pub networkOf : Description → RemyNetwork
 networkOf d =
     record {
-      delay = doubleOf (d .delay);
-      rate = doubleOf (d .rate);
-      loss = doubleOf (d .loss);
-      limit = limitOf (d .limit);
+      line = record { delay = doubleOf (d .delay); rate = doubleOf (d .rate); loss = doubleOf (d .loss); limit = limitOf (d .limit) };
+      back = Back.None;
       bits = d .bits;
       senders = d .senders;
       on = distributionOf (d .on);

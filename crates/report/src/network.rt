@@ -3,9 +3,11 @@ ghost use mathlib.Core.Path.{_≡_};
 ghost use Rattle.report.specs.Network.{limitOf, distributionOf, policyOf, networkOf};
 use description::Description;
 use link::Limit;
+use link::LineValues;
 use quantities::float::from_bits;
 use rand::ContinuousDistribution;
 use remy::RemyNetwork;
+use remy::ReturnLine;
 use sender::Policy;
 
 fn limit_of(limit: description::Limit) -> Limit
@@ -40,7 +42,7 @@ fn policy_of(policy: description::Policy) -> Policy
 }
 
 // A double is the one that its bits stand for. Every pattern of a NaN gives the one NaN, which is in
-// no range, so a build refuses it.
+// no range, so a build refuses it. A description has no return line.
 pub(crate) fn network_of(description: Description) -> RemyNetwork
     ensures { λ r. ⌜ r ≡ networkOf description ⌝ }
 {
@@ -49,11 +51,15 @@ pub(crate) fn network_of(description: Description) -> RemyNetwork
     let on = description.on;
     let off = description.off;
     let policy = description.policy;
-    RemyNetwork {
+    let line = LineValues {
         delay: from_bits(description.delay),
         rate: from_bits(description.rate),
         loss: from_bits(description.loss),
         limit: limit_of(limit),
+    };
+    RemyNetwork {
+        line,
+        back: ReturnLine::None,
         bits,
         senders: description.senders,
         on: distribution_of(on),

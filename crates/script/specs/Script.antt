@@ -15,9 +15,9 @@ unfoldable pub digitOf : ℕ → ℕ
 digitOf b = cond (ltb b 48) 0 (cond (ltb b 58) (b - 48) (cond (ltb b 97) 0 (cond (ltb b 103) (b - 87) 0)))
 
 -- the place of field k of the line at a place: a letter, and 17 bytes for each field before it.
--- Past the bounds of a script, 33 fields and 524,288 bytes, it is the place after the last byte
+-- Past the bounds of a script, 38 fields and 524,288 bytes, it is the place after the last byte
 unfoldable pub fieldAt : ℕ → ℕ → ℕ
-fieldAt at k = cond (ltb at 524288) (cond (ltb k 33) (at + 2 + 17 * k) 524288) 524288
+fieldAt at k = cond (ltb at 524288) (cond (ltb k 38) (at + 2 + 17 * k) 524288) 524288
 
 -- a field that begins with `-` is absent
 unfoldable pub absentAt : List ℕ → ℕ → ℕ → Bool

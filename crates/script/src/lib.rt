@@ -13,10 +13,10 @@ pub fn byte_at(text: &[u8], at: usize) -> u8
 
 // The place of field k, counted from 0, of the line at a place.
 fn field(at: usize, k: usize) -> usize
-    ensures { λ r. ⌜ (r ≡ fieldAt at k) × (r < 524834) ⌝ }
+    ensures { λ r. ⌜ (r ≡ fieldAt at k) × (r < 524919) ⌝ }
 {
     if at < 524288 {
-        if k < 33 {
+        if k < 38 {
             return at + 2 + 17 * k;
         }
     }

@@ -5,15 +5,15 @@ use lib.Ieee.{eq}
 use Rattle.quantities.specs.Doubles.{largest}
 use Rattle.toggler.specs.Queue.{queuePlaces}
 use Rattle.remy.specs.declared.simulation.Simulation.{Simulation}
-use Rattle.remy.specs.State.{senderAt, togglerAt, meterAt, queuedAt, waitingPackets, onLineItems, onLinePackets}
+use Rattle.remy.specs.State.{lineAt, senderAt, togglerAt, meterAt, queuedAt, waitingPackets, onLineItems, onLinePackets}
 use Rattle.remy.specs.Network.{upTo}
-use Rattle.remy.specs.Fit.{every, eachSender, held, heldIfAny, isIdle, heldSender, heldQueued, sinceStart, startedFit, meterStartFit, heldTimesFit, pastFit}
+use Rattle.remy.specs.Fit.{every, eachSender, eachLine, held, heldIfAny, isIdle, heldSender, heldQueued, sinceStart, startedFit, meterStartFit, heldTimesFit, pastFit}
 use Rattle.remy.proofs.Facts.{both-l, both-r}
 
 pub record HeldTimes (s : Simulation) : Type 0 where
   pub clock : (held (s .head .clock) || (isIdle (s .head .next) && eq (s .head .clock .0 .0) largest)) ≡ true
-  pub free : held (s .line .«earliest_transmit») ≡ true
-  pub dues : every (λ x. held (x .due)) (onLineItems s) ≡ true
+  pub free : eachLine s (λ l. held (lineAt s l .«earliest_transmit»)) ≡ true
+  pub dues : eachLine s (λ l. every (λ x. held (x .due)) (onLineItems s l)) ≡ true
   pub senders : eachSender s (λ i. heldSender (senderAt s i .state)) ≡ true
   pub toggles : eachSender s (λ i. held (togglerAt s i .«next_toggle»)) ≡ true
   pub queue : upTo queuePlaces (λ k. heldQueued s (queuedAt s k)) ≡ true
@@ -22,10 +22,10 @@ pub held-times : (s : Simulation) → heldTimesFit s ≡ true → HeldTimes s
 unfolding heldTimesFit
 held-times s all =
     let now = held (s .head .clock) || (isIdle (s .head .next) && eq (s .head .clock .0 .0) largest) in
-    let free = held (s .line .«earliest_transmit») in
-    let waiting = every (λ p. held (p .«sent_time»)) (waitingPackets s) in
-    let moving = every (λ p. held (p .«sent_time»)) (onLinePackets s) in
-    let dues = every (λ x. held (x .due)) (onLineItems s) in
+    let free = eachLine s (λ l. held (lineAt s l .«earliest_transmit»)) in
+    let waiting = eachLine s (λ l. every (λ p. held (p .«sent_time»)) (waitingPackets s l)) in
+    let moving = eachLine s (λ l. every (λ p. held (p .«sent_time»)) (onLinePackets s l)) in
+    let dues = eachLine s (λ l. every (λ x. held (x .due)) (onLineItems s l)) in
     let senders = eachSender s (λ i. heldSender (senderAt s i .state)) in
     let toggles = eachSender s (λ i. held (togglerAt s i .«next_toggle»)) in
     let starts = eachSender s (λ i. heldIfAny (meterAt s i .«current_start»)) in
@@ -49,16 +49,16 @@ held-times s all =
     }
 
 pub record PastTimes (s : Simulation) : Type 0 where
-  pub waiting : every (λ p. sinceStart s (p .«sent_time»)) (waitingPackets s) ≡ true
-  pub moving : every (λ p. sinceStart s (p .«sent_time»)) (onLinePackets s) ≡ true
+  pub waiting : eachLine s (λ l. every (λ p. sinceStart s (p .«sent_time»)) (waitingPackets s l)) ≡ true
+  pub moving : eachLine s (λ l. every (λ p. sinceStart s (p .«sent_time»)) (onLinePackets s l)) ≡ true
   pub senders : eachSender s (λ i. startedFit s (senderAt s i .state)) ≡ true
   pub meters : eachSender s (λ i. meterStartFit s (meterAt s i .«current_start»)) ≡ true
 
 pub past-times : (s : Simulation) → pastFit s ≡ true → PastTimes s
 unfolding pastFit
 past-times s all =
-    let waiting = every (λ p. sinceStart s (p .«sent_time»)) (waitingPackets s) in
-    let moving = every (λ p. sinceStart s (p .«sent_time»)) (onLinePackets s) in
+    let waiting = eachLine s (λ l. every (λ p. sinceStart s (p .«sent_time»)) (waitingPackets s l)) in
+    let moving = eachLine s (λ l. every (λ p. sinceStart s (p .«sent_time»)) (onLinePackets s l)) in
     let senders = eachSender s (λ i. startedFit s (senderAt s i .state)) in
     let meters = eachSender s (λ i. meterStartFit s (meterAt s i .«current_start»)) in
     let by-senders = both-l (waiting && moving && senders) meters all in

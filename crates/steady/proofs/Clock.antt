@@ -23,7 +23,7 @@ use Rattle.remy.specs.declared.simulation.Next.the-variants as Next
 use Rattle.remy.specs.declared.simulation.Simulation.{Simulation}
 use Rattle.remy.specs.declared.simulation.TickRecord.{TickRecord}
 use Rattle.remy.specs.declared.simulation.Ticked.{Ticked}
-use Rattle.remy.specs.State.{Role, senderAt, queuedAt, onLineItems}
+use Rattle.remy.specs.State.{Role, lineAt, senderAt, queuedAt, onLineItems}
 use Rattle.remy.specs.Build.{buildOf}
 use Rattle.remy.specs.Tick.{tickOf}
 use Rattle.remy.specs.NewTimes.{partTimes, newTimes}
@@ -32,6 +32,7 @@ use Rattle.remy.specs.History.{Call, tick, after, noted, history, Fresh}
 use Rattle.remy.proofs.Lists.{All, all-map, all-mapped, all-member, member-all}
 use Rattle.remy.proofs.Facts.{FitState}
 use Rattle.remy.proofs.Plain.{Plain, PlainOrLeast, plain}
+use Rattle.remy.proofs.Roles.{Real}
 use Rattle.remy.proofs.NewTimes.{part-has, part-fine, new-times-fine}
 use Rattle.remy.proofs.HeldTimes.{any-map, Every, Closed, tick-held, tick-has}
 use Rattle.remy.proofs.Start.{fresh-kept, build-elim}
@@ -44,16 +45,16 @@ use Rattle.steady.proofs.Open.{clock-held, free-held, queued-held, dues
 -- ---- doubles stay doubles
 
 doubles-closed : (c : Time) → Double c → Closed doubles c
-doubles-closed c d = record { now = d; last = unfold fits in tt; freed = λ t e. by t e (lt (c .0 .0) (t .0 .0)); left = λ t e. e; fired = λ i t e. e; turned = λ i t e. e }
+doubles-closed c d = record { now = d; last = unfold fits in tt; freed = λ l t e. by t e (lt (c .0 .0) (t .0 .0)); left = λ l t e. e; fired = λ i t e. e; turned = λ i t e. e }
   where
     by : (t : Time) → Double t → (b : Bool) → Double (timeOf (cond b (t .0 .0) (c .0 .0)))
     by t e true = e
     by t e false = d
 
-new-doubles : (s : Simulation) → Double (s .head .clock) → FitState s → (role : Role) → All (Every doubles) (partTimes s role)
-new-doubles s d f role =
-    all-map Double (Every doubles) (λ t e. record { free = e; due = e; timer = λ i. e; toggle = λ i. e }) (partTimes s role)
-    (part-has s f Double (λ w. sum _) (λ w. sum _) (λ gap w. sum gap) (λ draw w. sum draw) role)
+new-doubles : (s : Simulation) → Double (s .head .clock) → FitState s → (role : Role) → Real (s .network) role → All (Every doubles) (partTimes s role)
+new-doubles s d f role real =
+    all-map Double (Every doubles) (λ t e. record { free = λ l. e; due = λ l. e; timer = λ i. e; toggle = λ i. e }) (partTimes s role)
+    (part-has s f Double (λ bits rate w. sum _) (λ delay w. sum _) (λ gap w. sum gap) (λ draw w. sum draw) role real)
   where
     -- a sum is rounded to a double, whatever its parts are
     sum : (span : Float) → Double (spanAfter (s .head .clock) (spanOf span))
@@ -75,8 +76,8 @@ any-unit (Some t) = tt
 old-held : (s : Simulation) (ts : List Time) → Holds (oldOrNew s ts) s
 old-held s ts =
     record {
-      free = inl refl;
-      due = λ t m. inl m;
+      free = λ l h. inl refl;
+      due = λ l h t m. inl m;
       timer = λ i h. any-self (λ t. List·Memᴰ t ts) (timerOf (senderAt s i .state));
       toggle = λ i h. inl refl;
       queued = λ j h. any-unit (queuedAt s j);
@@ -85,14 +86,14 @@ old-held s ts =
 old-or-new : (s : Simulation) → Full s → Holds (oldOrNew s (newTimes s)) (tickOf s .simulation)
 old-or-new s full =
     tick-held (λ t ts. Holds (oldOrNew s ts) (t .simulation)) s full (λ number ts. old-held s ts)
-    (λ f early j next role.
+    (λ f early j next role real.
     let ts = partTimes s role in
     let k = oldOrNew s ts in (
       k,
       (
-        record { now = tt; last = tt; freed = λ t e. tt; left = λ t e. tt; fired = λ i t e. tt; turned = λ i t e. tt },
+        record { now = tt; last = tt; freed = λ l t e. tt; left = λ l t e. tt; fired = λ i t e. tt; turned = λ i t e. tt },
         old-held s ts,
-        member-all (Every k) ts (λ t m. record { free = inr m; due = inr m; timer = λ i. inr m; toggle = λ i. inr m }),
+        member-all (Every k) ts (λ t m. record { free = λ l. inr m; due = λ l. inr m; timer = λ i. inr m; toggle = λ i. inr m }),
         λ r m now h. h .held,
       ),
     ))
@@ -100,7 +101,7 @@ old-or-new s full =
 -- ---- times from the clock on stay so
 
 abbrev ahead : Time → Kinds
-ahead c = record { free = λ t. T (not (isNan (t .0 .0))); due = NotAfter c; timer = λ i. NotAfter c; toggle = λ i. NotAfter c; queued = NotAfter c }
+ahead c = record { free = λ l t. T (not (isNan (t .0 .0))); due = λ l. NotAfter c; timer = λ i. NotAfter c; toggle = λ i. NotAfter c; queued = NotAfter c }
 
 state-from : (policy : Policy) (clock : Time) (x : SenderState) → StateOk policy clock x → IfAny (NotAfter clock) (timerOf x)
 state-from policy clock State.WaitingForEnable ok = tt
@@ -113,8 +114,9 @@ module _ (s : Simulation) (y : Typed s) (f : FitState s) (early : lt (power 40) 
   ahead-held : Holds (ahead (s .head .clock)) s
   ahead-held =
       record {
-        free = held-known (s .line .«earliest_transmit») (free-held s j f (y .full) next);
-        due = all-member (NotAfter (s .head .clock)) (dueTimes s) (all-mapped (NotAfter (s .head .clock)) (λ x. x .due) (onLineItems s) (dues-ahead s j f (y .full) next));
+        free = λ l h. held-known (lineAt s l .«earliest_transmit») (free-held s j f (y .full) next l h);
+        due = λ l h.
+            all-member (NotAfter (s .head .clock)) (dueTimes s l) (all-mapped (NotAfter (s .head .clock)) (λ x. x .due) (onLineItems s l) (dues-ahead s j f (y .full) next l h));
         timer = λ i h. state-from (s .network .policy) (s .head .clock) (senderAt s i .state) (part-ok s j f (y .full) next i h .state);
         toggle = λ i h. toggle-ahead s j f (y .full) next i h;
         queued = λ k h. queued-ahead s (queuedAt s k) (queued-held s j f (y .full) next k h) .from;
@@ -125,17 +127,17 @@ module _ (s : Simulation) (y : Typed s) (f : FitState s) (early : lt (power 40) 
       record {
         now = le-refl (s .head .clock .0 .0) known;
         last = le-trans (s .head .clock .0 .0) (power 41) largest (clock-held s j f (y .full) next) (unfold le in tt);
-        freed = λ t n. later-left (s .head .clock .0 .0) (t .0 .0) known n;
-        left = λ t a. a;
+        freed = λ l t n. later-left (s .head .clock .0 .0) (t .0 .0) known n;
+        left = λ l t a. a;
         fired = λ i t a. a;
         turned = λ i t a. a;
       }
 
-  new-from : (role : Role) → All (Every (ahead (s .head .clock))) (partTimes s role)
-  new-from role =
+  new-from : (role : Role) → Real (s .network) role → All (Every (ahead (s .head .clock))) (partTimes s role)
+  new-from role real =
       all-map (FineTime (s .head .clock)) (Every (ahead (s .head .clock)))
-      (λ t x. record { free = le-known-r (s .head .clock .0 .0) (t .0 .0) (x .ahead); due = x .ahead; timer = λ i. x .ahead; toggle = λ i. x .ahead }) (partTimes s role)
-      (part-fine s (y .clock) f early role)
+      (λ t x. record { free = λ l. le-known-r (s .head .clock .0 .0) (t .0 .0) (x .ahead); due = λ l. x .ahead; timer = λ i. x .ahead; toggle = λ i. x .ahead }) (partTimes s role)
+      (part-fine s (y .clock) f early role real)
 
 -- a tick that moved: its record is at the clock, which is no NaN, and the next clock is not before it
 record Stepped (s : Simulation) (t : Ticked) : Type 0 where
@@ -147,12 +149,12 @@ stepped : (s : Simulation) → Typed s → tickOf s .moved ≡ true → Stepped 
 stepped s y =
     let F : Ticked → List Time → Type 0 = λ t ts. t .moved ≡ true → Stepped s t in
     tick-held F s (y .full) (λ number ts e. absurd (true≢false (sym e)))
-    (λ f early j next role. (
+    (λ f early j next role real. (
       ahead (s .head .clock),
       (
         ahead-closed s y f early j next,
         ahead-held s y f early j next,
-        new-from s y f early j next role,
+        new-from s y f early j next role real,
         λ r m now h e. record { now = now; known = le-refl (s .head .clock .0 .0) (known s y f early j next); next = h .clock },
       ),
     ))
@@ -205,8 +207,8 @@ plain-typed s y =
       clock = y .clock .double;
       held =
           record {
-            free = free-double (s .line .«earliest_transmit») (y .held .free);
-            due = λ t m. y .held .due t m .double;
+            free = λ l h. free-double (lineAt s l .«earliest_transmit») (y .held .free l h);
+            due = λ l h t m. y .held .due l h t m .double;
             timer = λ i h. any-map Plain Double (λ t p. p .double) (timerOf (senderAt s i .state)) (y .held .timer i h);
             toggle = λ i h. y .held .toggle i h .double;
             queued = λ j h. any-map Plain Double (λ t p. p .double) (queuedAt s j) (y .held .queued j h);

@@ -24,13 +24,13 @@ use Rattle.toggler.specs.Queue.{queuePlaces}
 use Rattle.remy.specs.declared.simulation.Next.{Next}
 use Rattle.remy.specs.declared.simulation.Simulation.{Simulation}
 use Rattle.remy.specs.Network.{upTo, between, networkStop}
-use Rattle.remy.specs.State.{senderAt, togglerAt, meterAt, queuedAt, waitingItems, waitingPackets, onLineItems, onLinePackets, senderBits, packetBits, totalBits}
+use Rattle.remy.specs.State.{lineCount, lineAt, senderAt, togglerAt, meterAt, queuedAt, waitingItems, waitingPackets, onLineItems, onLinePackets, senderBits, packetBits, totalBits}
 use Rattle.remy.specs.Queue.{nextTimeOf}
-use Rattle.remy.specs.Fit.{every, eachSender, packetFit, held, heldIfAny, heldSender, heldQueued, isNext, sinceStart, startedFit, meterStartFit, countOf, ackFit, heldWindowFit, isTimed, timerFit, senderOn, sameTime, nextFit, networkFit, ringsFit, packetsFit, bitsFit, clockFit, heldTimesFit, pastFit, totalsFit, sumsFit, recordsFit, dueFit, countsFit, windowsFit, timersFit, togglersAgree, metersAgree, meterBitsFit, queueFit, carries, carriedFit, wordsFit, fit}
+use Rattle.remy.specs.Fit.{every, eachSender, eachLine, packetFit, held, heldIfAny, heldSender, heldQueued, isNext, sinceStart, startedFit, meterStartFit, rising, ackFit, heldWindowFit, isTimed, timerFit, senderOn, sameTime, nextFit, networkFit, ringsFit, packetsFit, bitsFit, clockFit, heldTimesFit, pastFit, totalsFit, sumsFit, recordsFit, dueFit, countsFit, windowsFit, timersFit, togglersAgree, metersAgree, meterBitsFit, queueFit, carries, carriedFit, wordsFit, fit}
 use Rattle.remy.proofs.Facts.{both-i, range-i, words-joined}
 use Rattle.remy.proofs.Fresh.{or-else, upTo-intro, fit-intro}
-use Rattle.steady.specs.Steady.{dueSoon, steady}
-use Rattle.steady.proofs.Facts.{Past, PastIfAny, PacketOk, WaitsOk, TransitOk, TimerIfAny, StateOk, PartAt, sentOf, Body, Between}
+use Rattle.steady.specs.Steady.{dueSoon, soonFit, steady}
+use Rattle.steady.proofs.Facts.{Past, PastIfAny, PacketOk, WaitsOk, TransitOk, TimerIfAny, StateOk, PartAt, LineAt, sentOf, allUnderWay, Body, Between}
 use Rattle.remy.proofs.Lists.{all-map, all-mapped}
 use Rattle.steady.proofs.Lists.{all-every}
 
@@ -47,29 +47,38 @@ module _ (s : Simulation) (b : Body s) where
   abbrev Good : Packet → Type 0
   Good = PacketOk (s .network .senders) (sentOf s) (s .head .clock)
 
-  abbrev Moves : Transit → Type 0
-  Moves = TransitOk (s .network .senders) (sentOf s) (s .head .clock) (s .network .delay)
+  abbrev Moves : ℕ → Transit → Type 0
+  Moves l = TransitOk (s .network) (sentOf s) (s .head .clock) l
 
   abbrev Waits : Waiting → Type 0
   Waits = WaitsOk (s .network) (sentOf s) (s .head .clock)
 
-  each-waits : (f : Waiting → Bool) → ((x : Waiting) → Waits x → f x ≡ true) → every f (waitingItems s) ≡ true
-  each-waits f g = all-every f (waitingItems s) (all-map Waits (λ x. f x ≡ true) g (waitingItems s) (b .line .waiting-ok))
+  each-line : (f : ℕ → Bool) → ((l : ℕ) → LineAt s l → f l ≡ true) → eachLine s f ≡ true
+  each-line f g = upTo-intro (lineCount (s .network)) f (λ l h. g l (b .lines l h))
 
-  each-waiting : (f : Packet → Bool) → ((p : Packet) → Good p → f p ≡ true) → every f (waitingPackets s) ≡ true
-  each-waiting f g =
-      all-every f (waitingPackets s)
-      (all-mapped (λ p. f p ≡ true) (λ x. x .packet) (waitingItems s)
-      (all-map Waits (λ x. f (x .packet) ≡ true) (λ x w. g (x .packet) (w .packet)) (waitingItems s) (b .line .waiting-ok)))
+  each-waits : (f : Waiting → Bool) → ((x : Waiting) → Waits x → f x ≡ true) → eachLine s (λ l. every f (waitingItems s l)) ≡ true
+  each-waits f g = each-line _ (λ l o. all-every f (waitingItems s l) (all-map Waits (λ x. f x ≡ true) g (waitingItems s l) (o .waiting-ok)))
 
-  each-transit : (f : Transit → Bool) → ((x : Transit) → Moves x → f x ≡ true) → every f (onLineItems s) ≡ true
-  each-transit f g = all-every f (onLineItems s) (all-map Moves (λ x. f x ≡ true) g (onLineItems s) (b .line .moving-ok))
+  waiting-each : (f : Packet → Bool) → ((p : Packet) → Good p → f p ≡ true) → (l : ℕ) → LineAt s l → every f (waitingPackets s l) ≡ true
+  waiting-each f g l o =
+      all-every f (waitingPackets s l)
+      (all-mapped (λ p. f p ≡ true) (λ x. x .packet) (waitingItems s l)
+      (all-map Waits (λ x. f (x .packet) ≡ true) (λ x w. g (x .packet) (w .packet)) (waitingItems s l) (o .waiting-ok)))
 
-  each-moving : (f : Packet → Bool) → ((p : Packet) → Good p → f p ≡ true) → every f (onLinePackets s) ≡ true
-  each-moving f g =
-      all-every f (onLinePackets s)
-      (all-mapped (λ p. f p ≡ true) (λ x. x .packet) (onLineItems s)
-      (all-map Moves (λ x. f (x .packet) ≡ true) (λ x m. g (x .packet) (m .packet)) (onLineItems s) (b .line .moving-ok)))
+  moving-each : (f : Packet → Bool) → ((p : Packet) → Good p → f p ≡ true) → (l : ℕ) → LineAt s l → every f (onLinePackets s l) ≡ true
+  moving-each f g l o =
+      all-every f (onLinePackets s l)
+      (all-mapped (λ p. f p ≡ true) (λ x. x .packet) (onLineItems s l)
+      (all-map (Moves l) (λ x. f (x .packet) ≡ true) (λ x m. g (x .packet) (m .packet)) (onLineItems s l) (o .moving-ok)))
+
+  each-waiting : (f : Packet → Bool) → ((p : Packet) → Good p → f p ≡ true) → eachLine s (λ l. every f (waitingPackets s l)) ≡ true
+  each-waiting f g = each-line _ (waiting-each f g)
+
+  each-moving : (f : Packet → Bool) → ((p : Packet) → Good p → f p ≡ true) → eachLine s (λ l. every f (onLinePackets s l)) ≡ true
+  each-moving f g = each-line _ (moving-each f g)
+
+  each-transit : (f : ℕ → Transit → Bool) → ((l : ℕ) (x : Transit) → Moves l x → f l x ≡ true) → eachLine s (λ l. every (f l) (onLineItems s l)) ≡ true
+  each-transit f g = each-line _ (λ l o. all-every (f l) (onLineItems s l) (all-map (Moves l) (λ x. f l x ≡ true) (g l) (onLineItems s l) (o .moving-ok)))
 
   each-part : (f : ℕ → Bool) → ((i : ℕ) → PartAt s i → f i ≡ true) → eachSender s f ≡ true
   each-part f g = upTo-intro (s .network .senders) f (λ i h. g i (b .parts i h))
@@ -136,20 +145,28 @@ module _ (s : Simulation) (b : Body s) where
   rings-fit : ringsFit s ≡ true
   unfolding ringsFit
   rings-fit =
-      let w = s .line .waiting in
-      let m = s .line .«on_line» in
-      let waits = b .line .waits in
-      let moves = b .line .moves in
-      rw (le-leb (w .count) places (waits .count), le-leb (m .count) places (moves .count), lt-ltb (w .start) places (waits .start), lt-ltb (m .start) places (moves .start))
+      each-line _
+      (λ l o.
+      let w = lineAt s l .waiting in
+      let m = lineAt s l .«on_line» in
+      let waits = o .waits in
+      let moves = o .moves in
+      both-i (leb (w .count) places && leb (m .count) places && ltb (w .start) places) (ltb (m .start) places)
+      (both-i (leb (w .count) places && leb (m .count) places) (ltb (w .start) places)
+      (both-i (leb (w .count) places) (leb (m .count) places) (le-leb (w .count) places (waits .count)) (le-leb (m .count) places (moves .count)))
+      (lt-ltb (w .start) places (waits .start)))
+      (lt-ltb (m .start) places (moves .start)))
 
   packets-fit : packetsFit s ≡ true
   unfolding packetsFit
   packets-fit =
-      both-i (every (packetFit s) (waitingPackets s)) (every (packetFit s) (onLinePackets s)) (each-waiting (packetFit s) packet-fit) (each-moving (packetFit s) packet-fit)
+      each-line _
+      (λ l o.
+      both-i (every (packetFit s) (waitingPackets s l)) (every (packetFit s) (onLinePackets s l)) (waiting-each (packetFit s) packet-fit l o) (moving-each (packetFit s) packet-fit l o))
 
   bits-fit : bitsFit s ≡ true
   unfolding bitsFit
-  bits-fit = eq-eqb (s .line .«buffer_contains» .0) (totalBits (waitingItems s)) (b .line .bits)
+  bits-fit = each-line _ (λ l o. eq-eqb (lineAt s l .«buffer_contains» .0) (totalBits (waitingItems s l)) (o .bits))
 
   clock-fit : clockFit s ≡ true
   unfolding clockFit
@@ -159,8 +176,8 @@ module _ (s : Simulation) (b : Body s) where
   unfolding pastFit
   past-fit =
       let sent : Packet → Bool = λ p. sinceStart s (p .«sent_time») in
-      let waiting : every sent (waitingPackets s) ≡ true = each-waiting sent (λ p o. since (p .«sent_time») (o .past)) in
-      let moving : every sent (onLinePackets s) ≡ true = each-moving sent (λ p o. since (p .«sent_time») (o .past)) in
+      let waiting : eachLine s (λ l. every sent (waitingPackets s l)) ≡ true = each-waiting sent (λ p o. since (p .«sent_time») (o .past)) in
+      let moving : eachLine s (λ l. every sent (onLinePackets s l)) ≡ true = each-moving sent (λ p o. since (p .«sent_time») (o .past)) in
       let started : eachSender s (λ i. startedFit s (senderAt s i .state)) ≡ true = each-part _ (λ i o. state-since (s .network .policy) (senderAt s i .state) (o .state)) in
       let starts : eachSender s (λ i. meterStartFit s (meterAt s i .«current_start»)) ≡ true = each-part _ (λ i o. start-since (meterAt s i .«current_start») (o .meter .start)) in
       rw (waiting, moving, started, starts)
@@ -177,11 +194,11 @@ module _ (s : Simulation) (b : Body s) where
   unfolding recordsFit
   records-fit =
       upTo-intro (s .network .senders) _
-      (λ i h. le-leb (meterAt s i .records + countOf i (waitingPackets s) + countOf i (onLinePackets s)) (senderAt s i .«packets_sent») (b .records i h))
+      (λ i h. le-leb (meterAt s i .records + allUnderWay s i) (senderAt s i .«packets_sent») (b .records i h))
 
   due-fit : dueFit s ≡ true
   unfolding dueFit
-  due-fit = b .line .order
+  due-fit = each-line (λ l. rising (onLineItems s l)) (λ l o. o .order)
 
   counts-fit : countsFit s ≡ true
   unfolding countsFit
@@ -223,10 +240,10 @@ module _ (s : Simulation) (b : Body s) where
   words-fit : wordsFit s ≡ true
   words-fit =
       words-joined s
-      (record { link = ap not (b .line .words); senders = each-part _ (λ i o. ap not (o .words)); togglers = each-part _ (λ i o. ap not (o .toggler-words)) })
+      (record { link = each-line _ (λ l o. ap not (o .words)); senders = each-part _ (λ i o. ap not (o .words)); togglers = each-part _ (λ i o. ap not (o .toggler-words)) })
 
-  due-soon : every (dueSoon s) (onLineItems s) ≡ true
-  due-soon = each-transit (dueSoon s) (λ x m. is-true (dueSoon s x) (m .soon))
+  due-soon : soonFit s ≡ true
+  due-soon = each-transit (dueSoon s) (λ l x m. is-true (dueSoon s l x) (m .soon))
 
 -- ---- the clauses that read it
 
@@ -252,20 +269,21 @@ module _ (s : Simulation) (j : ℕ) (w : Between j s) where
   held-times-fit =
       let b = w .body in
       let sent : Packet → Bool = λ p. held (p .«sent_time») in
-      let waiting : every sent (waitingPackets s) ≡ true = each-waiting s b sent (λ p o. past-held s b (p .«sent_time») (o .past)) in
-      let moving : every sent (onLinePackets s) ≡ true = each-moving s b sent (λ p o. past-held s b (p .«sent_time») (o .past)) in
-      let dues : every (λ x. held (x .due)) (onLineItems s) ≡ true = each-transit s b (λ x. held (x .due)) (λ x m. is-true (held (x .due)) (m .held)) in
+      let free : eachLine s (λ l. held (lineAt s l .«earliest_transmit»)) ≡ true = each-line s b _ (λ l o. is-true (held (lineAt s l .«earliest_transmit»)) (o .free)) in
+      let waiting : eachLine s (λ l. every sent (waitingPackets s l)) ≡ true = each-waiting s b sent (λ p o. past-held s b (p .«sent_time») (o .past)) in
+      let moving : eachLine s (λ l. every sent (onLinePackets s l)) ≡ true = each-moving s b sent (λ p o. past-held s b (p .«sent_time») (o .past)) in
+      let dues : eachLine s (λ l. every (λ x. held (x .due)) (onLineItems s l)) ≡ true = each-transit s b (λ l x. held (x .due)) (λ l x m. is-true (held (x .due)) (m .held)) in
       let senders : eachSender s (λ i. heldSender (senderAt s i .state)) ≡ true = each-part s b _ (λ i o. state-held s b (s .network .policy) (senderAt s i .state) (o .state)) in
       let toggles : eachSender s (λ i. held (togglerAt s i .«next_toggle»)) ≡ true = each-part s b _ (λ i o. is-true (held (togglerAt s i .«next_toggle»)) (o .toggle)) in
       let starts : eachSender s (λ i. heldIfAny (meterAt s i .«current_start»)) ≡ true = each-part s b _ (λ i o. start-held s b (meterAt s i .«current_start») (o .meter .start)) in
       let queued : upTo queuePlaces (λ k. heldQueued s (queuedAt s k)) ≡ true = upTo-intro queuePlaces (λ k. heldQueued s (queuedAt s k)) queued-held in
-      rw (is-true (held (s .head .clock)) (b .held), is-true (held (s .line .«earliest_transmit»)) (b .line .free), waiting, moving, dues, senders, toggles, starts, queued)
+      rw (is-true (held (s .head .clock)) (b .held), free, waiting, moving, dues, senders, toggles, starts, queued)
 
 pub closed : (s : Simulation) (j : ℕ) → Between j s → steady s ≡ true
 unfolding steady
 closed s j w =
     let b = w .body in
-    both-i (fit s) (every (dueSoon s) (onLineItems s))
+    both-i (fit s) (soonFit s)
     (fit-intro s (network-fit s b) (rings-fit s b) (packets-fit s b) (bits-fit s b) (clock-fit s b) (held-times-fit s j w) (past-fit s b) (totals-fit s b) (sums-fit s b)
     (records-fit s b) (due-fit s b) (counts-fit s b) (windows-fit s b) (timers-fit s b) (togglers-agree s b) (meters-agree s b) (meter-bits-fit s b) (queue-fit s j w)
     (carried-fit s b) (words-fit s b))

@@ -1,10 +1,10 @@
--- A steady state by the parts of the state that each fact reads: the line with its packets, a sender with its toggler and meter, a place of the queue. Assumes nothing.
+-- A steady state by the parts of the state that each fact reads: a line with its packets, a sender with its toggler and meter, a place of the queue. Assumes nothing.
 use mathlib.Core.Path.{_≡_}
 use mathlib.Core.Bool.{true, false}
 use mathlib.Core.List.{List}
 use Prim.Native.Nat.{ℕ, _+_, _*_, _≤_, _<_}
 use lib.Dec.{T}
-use lib.Ieee.{Float, le}
+use lib.Ieee.{le}
 use Rattle.quantities.specs.declared.time.Time.{Time}
 use Rattle.quantities.specs.declared.time.OptionTime.{OptionTime}
 use Rattle.quantities.specs.declared.time.OptionTime.the-variants.{Some}
@@ -31,9 +31,9 @@ use Rattle.remy.specs.declared.network.RemyNetwork.{RemyNetwork}
 use Rattle.remy.specs.declared.simulation.Next.the-variants as Next
 use Rattle.remy.specs.declared.simulation.Simulation.{Simulation}
 use Rattle.remy.specs.Network.{windowFit, networkStop}
-use Rattle.remy.specs.State.{noWaiting, noTransit, senderAt, togglerAt, meterAt, queuedAt, waitingPackets, onLinePackets, senderBits, packetBits, totalBits}
+use Rattle.remy.specs.State.{lineCount, valuesOf, noWaiting, noTransit, lineAt, senderAt, togglerAt, meterAt, queuedAt, senderBits, packetBits, totalBits}
 use Rattle.remy.specs.Queue.{nextTimeOf}
-use Rattle.remy.specs.Fit.{isTimed, senderOn, sameTime, heldQueued, countOf, rising}
+use Rattle.remy.specs.Fit.{isTimed, senderOn, sameTime, heldQueued, rising, sumTo, underWay}
 use Rattle.remy.proofs.Lists.{All}
 use Rattle.remy.specs.HeldTimes.{Full, IfAny}
 
@@ -57,7 +57,7 @@ PastIfAny clock x = IfAny (Past clock) x
 abbrev pub Words : Rng → Type 0
 Words g = allZero g ≡ false
 
--- ---- the line
+-- ---- a line
 
 -- a packet of one of n senders, where sender i sent so many
 pub record PacketOk (n : ℕ) (sent : ℕ → ℕ) (clock : Time) (p : Packet) : Type 0 where
@@ -71,22 +71,23 @@ pub record WaitsOk (net : RemyNetwork) (sent : ℕ → ℕ) (clock : Time) (x : 
   pub packet : PacketOk (net .senders) sent clock (x .packet)
   pub carries : x .bits .0 ≡ packetBits net (x .packet) .0
 
--- a packet on the line: due from the clock on, not later than the clock and the delay
-pub record TransitOk (n : ℕ) (sent : ℕ → ℕ) (clock : Time) (delay : Float) (x : Transit) : Type 0 where
-  pub packet : PacketOk n sent clock (x .packet)
+-- a packet on line l: due from the clock on, not later than the clock and the line's delay
+pub record TransitOk (net : RemyNetwork) (sent : ℕ → ℕ) (clock : Time) (l : ℕ) (x : Transit) : Type 0 where
+  pub packet : PacketOk (net .senders) sent clock (x .packet)
   pub held : Held (x .due)
   pub ahead : NotAfter clock (x .due)
-  pub soon : NotAfter (x .due) (spanAfter clock (spanOf delay))
+  pub soon : NotAfter (x .due) (spanAfter clock (spanOf (valuesOf net l .delay)))
 
-pub record LineOk (net : RemyNetwork) (sent : ℕ → ℕ) (clock : Time) (l : Line) (waiting : List Waiting) (moving : List Transit) : Type 0 where
-  pub waits : Sound waiting (l .waiting)
-  pub moves : Sound moving (l .«on_line»)
-  pub bits : l .«buffer_contains» .0 ≡ totalBits (items noWaiting waiting (l .waiting))
-  pub waiting-ok : All (WaitsOk net sent clock) (items noWaiting waiting (l .waiting))
-  pub moving-ok : All (TransitOk (net .senders) sent clock (net .delay)) (items noTransit moving (l .«on_line»))
-  pub order : rising (items noTransit moving (l .«on_line»)) ≡ true
-  pub free : Held (l .«earliest_transmit»)
-  pub words : Words (l .rng)
+-- line l, where x is held for it
+pub record LineOk (net : RemyNetwork) (sent : ℕ → ℕ) (clock : Time) (l : ℕ) (x : Line) (waiting : List Waiting) (moving : List Transit) : Type 0 where
+  pub waits : Sound waiting l (x .waiting)
+  pub moves : Sound moving l (x .«on_line»)
+  pub bits : x .«buffer_contains» .0 ≡ totalBits (items noWaiting waiting l (x .waiting))
+  pub waiting-ok : All (WaitsOk net sent clock) (items noWaiting waiting l (x .waiting))
+  pub moving-ok : All (TransitOk net sent clock l) (items noTransit moving l (x .«on_line»))
+  pub order : rising (items noTransit moving l (x .«on_line»)) ≡ true
+  pub free : Held (x .«earliest_transmit»)
+  pub words : Words (x .rng)
 
 -- ---- a sender with its toggler and meter
 
@@ -138,20 +139,28 @@ sentOf s i = senderAt s i .«packets_sent»
 abbrev pub PartAt : Simulation → ℕ → Type 0
 PartAt s i = PartOk (s .network .policy) (senderBits (s .network) i .0) (s .head .clock) (senderAt s i) (togglerAt s i) (meterAt s i)
 
+-- line l with its packets
+abbrev pub LineAt : Simulation → ℕ → Type 0
+LineAt s l = LineOk (s .network) (sentOf s) (s .head .clock) l (lineAt s l) (s .waiting) (s .«on_line»)
+
+-- how many packets of sender i wait or are on a line
+abbrev pub allUnderWay : Simulation → ℕ → ℕ
+allUnderWay s i = sumTo (lineCount (s .network)) (underWay s i)
+
 -- all but the queue
 pub record Body (s : Simulation) : Type 0 where
   pub full : Full s
   pub network : networkStop (s .network) ≡ 0
   pub clock : T (le zeroF (s .head .clock .0 .0))
   pub held : Held (s .head .clock)
-  pub line : LineOk (s .network) (sentOf s) (s .head .clock) (s .line) (s .waiting) (s .«on_line»)
+  pub lines : (l : ℕ) → l < lineCount (s .network) → LineAt s l
   pub parts : (i : ℕ) → i < s .network .senders → PartAt s i
-  pub records : (i : ℕ) → i < s .network .senders → meterAt s i .records + countOf i (waitingPackets s) + countOf i (onLinePackets s) ≤ senderAt s i .«packets_sent»
+  pub records : (i : ℕ) → i < s .network .senders → meterAt s i .records + allUnderWay s i ≤ senderAt s i .«packets_sent»
 
--- a packet that neither waits nor is on the line, and is not counted: its sender has room for it
+-- a packet that neither waits nor is on a line, and is not counted: its sender has room for it
 pub record Loose (s : Simulation) (p : Packet) : Type 0 where
   pub packet : PacketOk (s .network .senders) (sentOf s) (s .head .clock) p
-  pub room : meterAt s (p .sender) .records + countOf (p .sender) (waitingPackets s) + countOf (p .sender) (onLinePackets s) + 1 ≤ senderAt s (p .sender) .«packets_sent»
+  pub room : meterAt s (p .sender) .records + allUnderWay s (p .sender) + 1 ≤ senderAt s (p .sender) .«packets_sent»
 
 -- place k of the queue: the part's own next time, held, not below the clock
 pub record PlaceOk (s : Simulation) (k : ℕ) : Type 0 where

@@ -30,9 +30,9 @@ use Rattle.remy.specs.declared.simulation.Next.{Next}
 use Rattle.remy.specs.declared.simulation.Next.the-variants as Next
 use Rattle.remy.specs.declared.simulation.Simulation.{Simulation}
 use Rattle.remy.specs.Network.{upTo, between, networkStop}
-use Rattle.remy.specs.State.{Role, link, sender, toggler, roleOf, noTransit, senderAt, togglerAt, meterAt, queuedAt, frontOf, waitingItems, waitingPackets, onLineItems, onLinePackets, senderBits, totalBits}
+use Rattle.remy.specs.State.{lineCount, Role, link, sender, toggler, noTransit, lineAt, senderAt, togglerAt, meterAt, queuedAt, frontOf, waitingItems, waitingPackets, onLineItems, onLinePackets, senderBits, totalBits}
 use Rattle.remy.specs.Queue.{ownTime, nextTimeOf, partOf}
-use Rattle.remy.specs.Fit.{every, eachSender, packetFit, held, heldIfAny, isIdle, heldSender, heldQueued, isNext, sinceStart, startedFit, meterStartFit, countOf, rising, ackFit, heldWindowFit, isTimed, timerFit, senderOn, sameTime, nextFit, networkFit, packetsFit, bitsFit, clockFit, totalsFit, sumsFit, recordsFit, dueFit, countsFit, windowsFit, timersFit, togglersAgree, metersAgree, meterBitsFit, queueFit, carries, carriedFit, fit}
+use Rattle.remy.specs.Fit.{every, eachSender, eachLine, packetFit, held, heldIfAny, isIdle, heldSender, heldQueued, isNext, sinceStart, startedFit, meterStartFit, rising, ackFit, heldWindowFit, isTimed, timerFit, senderOn, sameTime, nextFit, networkFit, packetsFit, bitsFit, clockFit, totalsFit, sumsFit, recordsFit, dueFit, countsFit, windowsFit, timersFit, togglersAgree, metersAgree, meterBitsFit, queueFit, carries, carriedFit, fit}
 use Rattle.remy.proofs.Facts.{both-l, both-r, holds, range-low, range-high, between-low, between-high, upTo-at, FitState, fit-state, FitWords, words-apart}
 use Rattle.remy.proofs.Networks.{fit-network, few-senders}
 use Rattle.remy.proofs.Steps.{cond-elim}
@@ -40,8 +40,8 @@ use Rattle.remy.proofs.Roles.{Real, role-of, part-inside}
 use Rattle.remy.proofs.Lists.{All, all-unmapped}
 use Rattle.remy.proofs.Front.{rings}
 use Rattle.remy.specs.HeldTimes.{Full}
-use Rattle.steady.specs.Steady.{dueSoon, steady}
-use Rattle.steady.proofs.Facts.{NotAfter, Held, Past, PastIfAny, PacketOk, WaitsOk, TransitOk, LineOk, TimerIfAny, StateOk, MeterOk, PartAt, sentOf, Body, QueueBut, Between}
+use Rattle.steady.specs.Steady.{dueSoon, soonFit, steady}
+use Rattle.steady.proofs.Facts.{NotAfter, Held, Past, PastIfAny, PacketOk, WaitsOk, TransitOk, TimerIfAny, StateOk, MeterOk, PartAt, LineAt, sentOf, allUnderWay, Body, QueueBut, Between}
 use Rattle.steady.proofs.Clauses.{HeldTimes, held-times, PastTimes, past-times}
 use Rattle.steady.proofs.Lists.{all-with, every-all}
 use Rattle.steady.proofs.Ahead.{HeldIfAny, FromIfAny, ahead-now, ahead-latest, queued-ahead, from-same, from-right}
@@ -99,9 +99,6 @@ module _ (s : Simulation) (j : ℕ) (fits : FitState s) (full : Full s) (next : 
       holds (held (s .head .clock))
       (or-first (held (s .head .clock)) (isIdle (s .head .next) && eq (s .head .clock .0 .0) largest) (ap (λ (n : Next). isIdle n && eq (s .head .clock .0 .0) largest) next) (helds .clock))
 
-  pub free-held : Held (s .line .«earliest_transmit»)
-  free-held = holds (held (s .line .«earliest_transmit»)) (helds .free)
-
   -- ---- the queue
 
   pub queued-held : (k : ℕ) → k < queuePlaces → heldQueued s (queuedAt s k) ≡ true
@@ -135,46 +132,53 @@ module _ (s : Simulation) (j : ℕ) (fits : FitState s) (full : Full s) (next : 
     | no other ↦ from-same (s .head .clock) (queuedAt s k) (nextTimeOf s k) (others k h other .own) (queued-ahead s (queuedAt s k) (others k h other .ahead) .from)
   ]
 
-  role-ahead : (role : Role) → Real (s .network .senders) role → FromIfAny (s .head .clock) (ownTime s role)
+  role-ahead : (role : Role) → Real (s .network) role → FromIfAny (s .head .clock) (ownTime s role)
   role-ahead role r =
-      subst (λ (x : Role). FromIfAny (s .head .clock) (ownTime s x)) (role-of (s .network .senders) role r)
-      (part-ahead (partOf role) (part-inside (s .network .senders) role few r))
+      subst (λ (x : Role). FromIfAny (s .head .clock) (ownTime s x)) (role-of (s .network) role r)
+      (part-ahead (partOf (s .network .senders) role) (part-inside (s .network) role few r))
 
-  -- ---- the line
+  -- ---- a line
 
-  rises : rising (onLineItems s) ≡ true
-  unfolding dueFit
-  rises = fits .due
+  module _ (l : ℕ) (there : l < lineCount (s .network)) where
+    at-line : (g : ℕ → Bool) → eachLine s g ≡ true → g l ≡ true
+    at-line g e = upTo-at (lineCount (s .network)) g e l there
 
-  -- the first due time
-  front-ahead : 0 < s .line .«on_line» .count → Held (frontOf s .due) → NotAfter (s .head .clock) (frontOf s .due)
-  unfolding roleOf ownTime nextTick nextTransmit nextDeliver
-  front-ahead some h =
-      let transmit = nextTransmit (s .line) (s .head .clock) in
-      let a : FromIfAny (s .head .clock) (earliestOptOf transmit (nextDeliver (s .line) (frontOf s .due))) = role-ahead link tt in
-      let b : FromIfAny (s .head .clock) (earliestOptOf transmit (Some (frontOf s .due))) =
-      subst (λ (c : Bool). FromIfAny (s .head .clock) (earliestOptOf transmit (cond c None (Some (frontOf s .due))))) (ne-eqb (s .line .«on_line» .count) 0 (omega arith)) a in
-      from-right (s .head .clock) transmit (Some (frontOf s .due))
-      (cond-elim HeldIfAny (eqb (s .line .waiting .count) 0) None (Some (latestOf (s .head .clock) (s .line .«earliest_transmit»))) (λ e. tt)
-      (λ e. ahead-latest (s .head .clock) clock-held (s .line .«earliest_transmit») free-held .held))
-      h b
+    pub free-held : Held (lineAt s l .«earliest_transmit»)
+    free-held = holds (held (lineAt s l .«earliest_transmit»)) (at-line (λ k. held (lineAt s k .«earliest_transmit»)) (helds .free))
 
-  dues-held : All (λ x. held (x .due) ≡ true) (onLineItems s)
-  dues-held = every-all (λ x. held (x .due)) (onLineItems s) (helds .dues)
+    rises : rising (onLineItems s l) ≡ true
+    unfolding dueFit
+    rises = at-line (λ k. rising (onLineItems s k)) (fits .due)
 
-  pub dues-ahead : All (λ x. NotAfter (s .head .clock) (x .due)) (onLineItems s)
-  dues-ahead = elim (ℕ-discrete (s .line .«on_line» .count) 0) [
-    | yes none ↦ subst (All (λ x. NotAfter (s .head .clock) (x .due))) (sym (items-empty noTransit (s .«on_line») (s .line .«on_line») none)) tt
-    | no some ↦ ahead-first (omega arith)
-  ]
-    where
-      ahead-first : 0 < s .line .«on_line» .count → All (λ x. NotAfter (s .head .clock) (x .due)) (onLineItems s)
-      ahead-first some =
-          let rest = items noTransit (s .«on_line») (popped (s .line .«on_line»)) in
-          let split : onLineItems s ≡ frontOf s ∷ rest = items-pop (rings s fits full .1) noTransit some in
-          subst (All (λ x. NotAfter (s .head .clock) (x .due))) (sym split)
-          (ahead-rising (s .head .clock) (frontOf s) rest (subst (λ (l : List Transit). rising l ≡ true) split rises)
-          (front-ahead some (holds (held (frontOf s .due)) (subst (All (λ x. held (x .due) ≡ true)) split dues-held .0))))
+    -- the first due time
+    front-ahead : 0 < lineAt s l .«on_line» .count → Held (frontOf s l .due) → NotAfter (s .head .clock) (frontOf s l .due)
+    unfolding ownTime nextTick nextTransmit nextDeliver
+    front-ahead some h =
+        let transmit = nextTransmit (lineAt s l) (s .head .clock) in
+        let a : FromIfAny (s .head .clock) (earliestOptOf transmit (nextDeliver (lineAt s l) (frontOf s l .due))) = role-ahead (link l) there in
+        let b : FromIfAny (s .head .clock) (earliestOptOf transmit (Some (frontOf s l .due))) =
+        subst (λ (c : Bool). FromIfAny (s .head .clock) (earliestOptOf transmit (cond c None (Some (frontOf s l .due))))) (ne-eqb (lineAt s l .«on_line» .count) 0 (omega arith)) a in
+        from-right (s .head .clock) transmit (Some (frontOf s l .due))
+        (cond-elim HeldIfAny (eqb (lineAt s l .waiting .count) 0) None (Some (latestOf (s .head .clock) (lineAt s l .«earliest_transmit»))) (λ e. tt)
+        (λ e. ahead-latest (s .head .clock) clock-held (lineAt s l .«earliest_transmit») free-held .held))
+        h b
+
+    dues-held : All (λ x. held (x .due) ≡ true) (onLineItems s l)
+    dues-held = every-all (λ x. held (x .due)) (onLineItems s l) (at-line (λ k. every (λ x. held (x .due)) (onLineItems s k)) (helds .dues))
+
+    pub dues-ahead : All (λ x. NotAfter (s .head .clock) (x .due)) (onLineItems s l)
+    dues-ahead = elim (ℕ-discrete (lineAt s l .«on_line» .count) 0) [
+      | yes none ↦ subst (All (λ x. NotAfter (s .head .clock) (x .due))) (sym (items-empty noTransit (s .«on_line») l (lineAt s l .«on_line») none)) tt
+      | no some ↦ ahead-first (omega arith)
+    ]
+      where
+        ahead-first : 0 < lineAt s l .«on_line» .count → All (λ x. NotAfter (s .head .clock) (x .due)) (onLineItems s l)
+        ahead-first some =
+            let rest = items noTransit (s .«on_line») l (popped (lineAt s l .«on_line»)) in
+            let split : onLineItems s l ≡ frontOf s l ∷ rest = items-pop (rings s fits l there full .1) noTransit some in
+            subst (All (λ x. NotAfter (s .head .clock) (x .due))) (sym split)
+            (ahead-rising (s .head .clock) (frontOf s l) rest (subst (λ (xs : List Transit). rising xs ≡ true) split rises)
+            (front-ahead some (holds (held (frontOf s l .due)) (subst (All (λ x. held (x .due) ≡ true)) split dues-held .0))))
 
   -- ---- packets
 
@@ -278,44 +282,48 @@ module _ (s : Simulation) (j : ℕ) (fits : FitState s) (full : Full s) (next : 
           toggler-words = not-true (allZero (togglerAt s i .rng)) (at (λ k. not (allZero (togglerAt s k .rng))) (words .togglers));
         }
 
-    records-ok : meterAt s i .records + countOf i (waitingPackets s) + countOf i (onLinePackets s) ≤ senderAt s i .«packets_sent»
+    records-ok : meterAt s i .records + allUnderWay s i ≤ senderAt s i .«packets_sent»
     unfolding recordsFit
     records-ok =
-        leb-true (meterAt s i .records + countOf i (waitingPackets s) + countOf i (onLinePackets s)) (senderAt s i .«packets_sent»)
-        (at (λ k. leb (meterAt s k .records + countOf k (waitingPackets s) + countOf k (onLinePackets s)) (senderAt s k .«packets_sent»)) (fits .records))
+        leb-true (meterAt s i .records + allUnderWay s i) (senderAt s i .«packets_sent»)
+        (at (λ k. leb (meterAt s k .records + allUnderWay s k) (senderAt s k .«packets_sent»)) (fits .records))
 
   -- ---- the whole state, where it is steady
 
-  module _ (soon : every (dueSoon s) (onLineItems s) ≡ true) where
-    line-ok : LineOk (s .network) (sentOf s) (s .head .clock) (s .line) (s .waiting) (s .«on_line»)
+  module _ (soon : soonFit s ≡ true) where
+    line-ok : (l : ℕ) → l < lineCount (s .network) → LineAt s l
     unfolding packetsFit bitsFit carriedFit
-    line-ok =
+    line-ok l there =
         let clock = s .head .clock in
-        let xs = onLineItems s in
+        let xs = onLineItems s l in
         let Good : Packet → Type 0 = PacketOk (s .network .senders) (sentOf s) clock in
-        let waiting = waitingItems s in
-        let packets = every (packetFit s) (waitingPackets s) in
-        let moving-packets = every (packetFit s) (onLinePackets s) in
+        let waiting = waitingItems s l in
+        let packets : ℕ → Bool = λ k. every (packetFit s) (waitingPackets s k) in
+        let moving-packets : ℕ → Bool = λ k. every (packetFit s) (onLinePackets s k) in
+        let both : (packets l && moving-packets l) ≡ true = at-line l there (λ k. packets k && moving-packets k) (fits .packets) in
+        let sent : Packet → Bool = λ p. sinceStart s (p .«sent_time») in
         let Due : Transit → Type 0 = λ x. (held (x .due) ≡ true) × NotAfter clock (x .due) in
-        let Sent : Transit → Type 0 = λ x. Good (x .packet) × (dueSoon s x ≡ true) in
+        let Sent : Transit → Type 0 = λ x. Good (x .packet) × (dueSoon s l x ≡ true) in
         record {
-          waits = rings s fits full .0;
-          moves = rings s fits full .1;
-          bits = eqb-true (s .line .«buffer_contains» .0) (totalBits waiting) (fits .bits);
+          waits = rings s fits l there full .0;
+          moves = rings s fits l there full .1;
+          bits = eqb-true (lineAt s l .«buffer_contains» .0) (totalBits waiting) (at-line l there (λ k. eqb (lineAt s k .«buffer_contains» .0) (totalBits (waitingItems s k))) (fits .bits));
           waiting-ok =
               all-with (λ x. Good (x .packet)) (λ x. carries s x ≡ true) (WaitsOk (s .network) (sentOf s) clock) (λ x p c. record { packet = p; carries = eqb-true _ _ c }) waiting
-              (all-unmapped Good (λ x. x .packet) waiting (packets-of (waitingPackets s) (both-l packets moving-packets (fits .packets)) (pasts .waiting)))
-              (every-all (carries s) waiting (fits .carried));
+              (all-unmapped Good (λ x. x .packet) waiting
+              (packets-of (waitingPackets s l) (both-l (packets l) (moving-packets l) both) (at-line l there (λ k. every sent (waitingPackets s k)) (pasts .waiting))))
+              (every-all (carries s) waiting (at-line l there (λ k. every (carries s) (waitingItems s k)) (fits .carried)));
           moving-ok =
-              all-with Due Sent (TransitOk (s .network .senders) (sentOf s) clock (s .network .delay))
-              (λ x d p. record { packet = p .0; held = holds (held (x .due)) (d .0); ahead = d .1; soon = holds (dueSoon s x) (p .1) }) xs
-              (all-with (λ x. held (x .due) ≡ true) (λ x. NotAfter clock (x .due)) Due (λ x h a. (h, a)) xs dues-held dues-ahead)
-              (all-with (λ x. Good (x .packet)) (λ x. dueSoon s x ≡ true) Sent (λ x p d. (p, d)) xs
-              (all-unmapped Good (λ x. x .packet) xs (packets-of (onLinePackets s) (both-r packets moving-packets (fits .packets)) (pasts .moving)))
-              (every-all (dueSoon s) xs soon));
-          order = rises;
-          free = free-held;
-          words = not-true (allZero (s .line .rng)) (words .link);
+              all-with Due Sent (TransitOk (s .network) (sentOf s) clock l)
+              (λ x d p. record { packet = p .0; held = holds (held (x .due)) (d .0); ahead = d .1; soon = holds (dueSoon s l x) (p .1) }) xs
+              (all-with (λ x. held (x .due) ≡ true) (λ x. NotAfter clock (x .due)) Due (λ x h a. (h, a)) xs (dues-held l there) (dues-ahead l there))
+              (all-with (λ x. Good (x .packet)) (λ x. dueSoon s l x ≡ true) Sent (λ x p d. (p, d)) xs
+              (all-unmapped Good (λ x. x .packet) xs
+              (packets-of (onLinePackets s l) (both-r (packets l) (moving-packets l) both) (at-line l there (λ k. every sent (onLinePackets s k)) (pasts .moving))))
+              (every-all (dueSoon s l) xs (at-line l there (λ k. every (dueSoon s k) (onLineItems s k)) soon)));
+          order = rises l there;
+          free = free-held l there;
+          words = not-true (allZero (lineAt s l .rng)) (at-line l there (λ k. not (allZero (lineAt s k .rng))) (words .link));
         }
 
     body : Body s
@@ -326,7 +334,7 @@ module _ (s : Simulation) (j : ℕ) (fits : FitState s) (full : Full s) (next : 
           network = accepted;
           clock = holds (le zeroF (s .head .clock .0 .0)) (fits .clock);
           held = clock-held;
-          line = line-ok;
+          lines = line-ok;
           parts = part-ok;
           records = records-ok;
         }
@@ -336,6 +344,4 @@ module _ (s : Simulation) (j : ℕ) (fits : FitState s) (full : Full s) (next : 
 
 pub opened : (s : Simulation) (j : ℕ) → steady s ≡ true → Full s → s .head .next ≡ Next.Part j → Between j s
 unfolding steady
-opened s j e full next =
-    let soon = every (dueSoon s) (onLineItems s) in
-    between-ticks s j (fit-state s (both-l (fit s) soon e)) full next (both-r (fit s) soon e)
+opened s j e full next = between-ticks s j (fit-state s (both-l (fit s) (soonFit s) e)) full next (both-r (fit s) (soonFit s) e)

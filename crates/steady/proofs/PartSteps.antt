@@ -25,14 +25,14 @@ use Rattle.sender.specs.Sender.{withState, tickTimer, tickSend, enabledOf, disa
 use Rattle.toggler.specs.Toggler.{nextToggle, toggleDraw, toggleOf}
 use Rattle.remy.specs.declared.simulation.Simulation.{Simulation}
 use Rattle.remy.specs.Network.{timesFit}
-use Rattle.remy.specs.State.{noToggler, noMeter, senderAt, togglerAt, meterAt, waitingPackets, onLinePackets, senderBits, packetBits, withSender, withToggler, withMeter}
-use Rattle.remy.specs.Fit.{senderOn, countOf}
+use Rattle.remy.specs.State.{noToggler, noMeter, senderAt, togglerAt, meterAt, senderBits, packetBits, withSender, withToggler, withMeter}
+use Rattle.remy.specs.Fit.{senderOn}
 use Rattle.remy.specs.Tick.{enabledSender, heardMeter, switchedSender}
 use Rattle.remy.proofs.Facts.{both-l, both-r}
 use Rattle.remy.proofs.Networks.{FitNetwork, fit-network, few-bits, far}
 use Rattle.remy.proofs.Steps.{cond-elim}
 use Rattle.remy.proofs.Fresh.{redraw-within}
-use Rattle.steady.proofs.Facts.{NotAfter, Held, Words, EnabledOk, StateOk, PartAt, Body, Loose}
+use Rattle.steady.proofs.Facts.{NotAfter, Held, Words, EnabledOk, StateOk, PartAt, allUnderWay, Body, Loose}
 use Rattle.steady.proofs.Stores.{unset, sender-set, toggler-set, meter-set, store}
 use Rattle.steady.proofs.Times.{Early, now-past, new-held, new-ahead}
 use Rattle.steady.proofs.Senders.{first-fit, timer-ok, SentOk, sent-ok, acked-ok}
@@ -136,7 +136,7 @@ module _ (s : Simulation) (b : Body s) (early : Early (s .head .clock)) where
         store s b i h (sender-set s b i h (senderAt s i)) (unset noToggler (s .togglers) i) (unset noMeter (s .meters) i) (le-of-eq refl) part (b .records i h)
 
     module _ (p : Packet) (mine : p .sender ≡ i) (few : p .seq ≤ 16777216)
-        (room : meterAt s i .records + countOf i (waitingPackets s) + countOf i (onLinePackets s) + 1 ≤ senderAt s i .«packets_sent») where
+        (room : meterAt s i .records + allUnderWay s i + 1 ≤ senderAt s i .«packets_sent») where
       -- where it is counted
       counted : (e : Enabled) → senderAt s i .state ≡ State.Enabled e
           → Body (heardMeter (withSender s i (withState (senderAt s i) (State.Enabled (acked (s .network .policy) e p)))) i p Heard.Counted)

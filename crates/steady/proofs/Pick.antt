@@ -8,7 +8,7 @@ use borrow.Author.Tests.{eqb-true, eqb-false}
 use lib.Dec.{T, eqb}
 use lib.ListN.{set, length-set}
 use lib.Seq.{getD-set-other}
-use lib.Ieee.{Float, binary64, le, eq}
+use lib.Ieee.{binary64, le, eq}
 use lib.Ieee.Bits.{is-true}
 use Rattle.quantities.specs.declared.time.Time.{Time}
 use Rattle.quantities.specs.declared.time.OptionTime.{OptionTime}
@@ -32,9 +32,10 @@ use Rattle.sender.specs.Sender.{maySend, nextSend, stateNext, senderNext}
 use Rattle.toggler.specs.Queue.{queuePlaces, noQueued, pickOf}
 use Rattle.link.proofs.Items.{items-empty, items-pop}
 use Rattle.toggler.proofs.Least.{picked-nothing, picked-there, picked-inside, picked-le}
+use Rattle.remy.specs.declared.network.RemyNetwork.{RemyNetwork}
 use Rattle.remy.specs.declared.simulation.Next.the-variants as Next
 use Rattle.remy.specs.declared.simulation.Simulation.{Simulation}
-use Rattle.remy.specs.State.{Role, link, sender, toggler, nobody, roleOf, noWaiting, noTransit, senderAt, togglerAt, meterAt, firstOf, frontOf, queuedAt, waitingItems, onLineItems, senderBits, withHead, withQueue}
+use Rattle.remy.specs.State.{lineCount, valuesOf, Role, link, bouncer, sender, toggler, nobody, roleIn, noWaiting, noTransit, lineAt, senderAt, togglerAt, meterAt, firstOf, frontOf, queuedAt, waitingItems, onLineItems, senderBits, withHead, withQueue}
 use Rattle.remy.specs.Queue.{ownTime, nextTimeOf, partOf, headOf, removed, picked}
 use Rattle.remy.specs.Fit.{heldQueued, sameTime, rising}
 use Rattle.remy.proofs.Facts.{both-l, both-r, holds}
@@ -125,17 +126,17 @@ module _ (c t : Time) (later : NotAfter c t) where
       (send-same sent e (from-left t (nextSend sent e c) (e .timer) (send-ahead sent e c h .held) timer f))
 
   -- the packets on the line, whose due times rise, where the first is due at t or later
-  module _ (n : ℕ) (sent : ℕ → ℕ) (delay : Float) (soon : NotAfter (spanAfter c (spanOf delay)) (spanAfter t (spanOf delay))) where
-    transit-later : (x : Transit) → NotAfter t (x .due) → TransitOk n sent c delay x → TransitOk n sent t delay x
+  module _ (net : RemyNetwork) (sent : ℕ → ℕ) (l : ℕ) (soon : NotAfter (spanAfter c (spanOf (valuesOf net l .delay))) (spanAfter t (spanOf (valuesOf net l .delay)))) where
+    transit-later : (x : Transit) → NotAfter t (x .due) → TransitOk net sent c l x → TransitOk net sent t l x
     transit-later x f ok =
         record {
-          packet = packet-later n sent (x .packet) (ok .packet);
+          packet = packet-later (net .senders) sent (x .packet) (ok .packet);
           held = ok .held;
           ahead = f;
-          soon = le-trans (x .due .0 .0) (spanAfter c (spanOf delay) .0 .0) (spanAfter t (spanOf delay) .0 .0) (ok .soon) soon;
+          soon = le-trans (x .due .0 .0) (spanAfter c (spanOf (valuesOf net l .delay)) .0 .0) (spanAfter t (spanOf (valuesOf net l .delay)) .0 .0) (ok .soon) soon;
         }
 
-    transits-later : (xs : List Transit) → rising xs ≡ true → FirstFrom t xs → All (TransitOk n sent c delay) xs → All (TransitOk n sent t delay) xs
+    transits-later : (xs : List Transit) → rising xs ≡ true → FirstFrom t xs → All (TransitOk net sent c l) xs → All (TransitOk net sent t l) xs
     transits-later [] r f ok = tt
     transits-later (x ∷ []) r f ok = (transit-later x f (ok .0), tt)
     transits-later (x ∷ (y ∷ ys)) r f ok =
@@ -149,46 +150,47 @@ abbrev moved : Simulation → ℕ → Time → Simulation
 moved s j t = withHead (withQueue s (set (s .queue) j noQueued)) (record { clock = t; next = Next.Part j })
 
 module _ (s : Simulation) (b : Body s) (t : Time) (ahead : Ahead (s .head .clock) (Some t)) (j : ℕ)
-    (least : (role : Role) → Real (s .network .senders) role → FromIfAny t (ownTime s role)) where
+    (least : (role : Role) → Real (s .network) role → FromIfAny t (ownTime s role)) where
   -- every part's own next time is what it was
-  own-same : (role : Role) → Real (s .network .senders) role → sameTime (ownTime s role) (ownTime (moved s j t) role) ≡ true
+  own-same : (role : Role) → Real (s .network) role → sameTime (ownTime s role) (ownTime (moved s j t) role) ≡ true
   unfolding ownTime nextTick senderNext
-  own-same link r =
+  own-same (link l) r =
       let c = s .head .clock in
-      let go = nextTransmit (s .line) c in
-      let leave = nextDeliver (s .line) (frontOf s .due) in
-      same-earliest go (nextTransmit (s .line) t) leave (deliver-ahead s b .held)
-      (transmit-same c t (ahead .from) (s .line) (b .line .free) (from-left t go leave (transmit-ahead s b .held) (deliver-ahead s b .held) (least link tt)))
+      let go = nextTransmit (lineAt s l) c in
+      let leave = nextDeliver (lineAt s l) (frontOf s l .due) in
+      same-earliest go (nextTransmit (lineAt s l) t) leave (deliver-ahead s b l r .held)
+      (transmit-same c t (ahead .from) (lineAt s l) (b .lines l r .free) (from-left t go leave (transmit-ahead s b l r .held) (deliver-ahead s b l r .held) (least (link l) r)))
+  own-same bouncer r = refl
   own-same (sender i) r =
       let x = senderAt s i in
       state-same (s .head .clock) t (ahead .from) (s .network .policy) (x .«packets_sent») (x .state) (b .held) (least (sender i) r) (b .parts i r .state)
   own-same (toggler i) r = same-self (Some (togglerAt s i .«next_toggle»)) (b .parts i r .toggle)
   own-same nobody r = absurd r
 
-  first-from : FirstFrom t (onLineItems s)
+  first-from : (l : ℕ) → l < lineCount (s .network) → FirstFrom t (onLineItems s l)
   unfolding ownTime nextTick nextDeliver
-  first-from =
+  first-from l h =
       let c = s .head .clock in
-      by (eqb (s .line .«on_line» .count) 0) refl
-      (from-right t (nextTransmit (s .line) c) (nextDeliver (s .line) (frontOf s .due)) (transmit-ahead s b .held) (deliver-ahead s b .held) (least link tt))
+      by (eqb (lineAt s l .«on_line» .count) 0) refl
+      (from-right t (nextTransmit (lineAt s l) c) (nextDeliver (lineAt s l) (frontOf s l .due)) (transmit-ahead s b l h .held) (deliver-ahead s b l h .held) (least (link l) h))
     where
-      by : (z : Bool) → eqb (s .line .«on_line» .count) 0 ≡ z → FromIfAny t (cond z None (Some (frontOf s .due))) → FirstFrom t (onLineItems s)
-      by true e f = subst (FirstFrom t) (sym (items-empty noTransit (s .«on_line») (s .line .«on_line») (eqb-true (s .line .«on_line» .count) 0 e))) tt
+      by : (z : Bool) → eqb (lineAt s l .«on_line» .count) 0 ≡ z → FromIfAny t (cond z None (Some (frontOf s l .due))) → FirstFrom t (onLineItems s l)
+      by true e f = subst (FirstFrom t) (sym (items-empty noTransit (s .«on_line») l (lineAt s l .«on_line») (eqb-true (lineAt s l .«on_line» .count) 0 e))) tt
       by false e f =
-          let some : s .line .«on_line» .count ≡ 0 → ⊥ = eqb-false (s .line .«on_line» .count) 0 e in
-          subst (FirstFrom t) (sym (items-pop (b .line .moves) noTransit (omega arith))) f
+          let some : lineAt s l .«on_line» .count ≡ 0 → ⊥ = eqb-false (lineAt s l .«on_line» .count) 0 e in
+          subst (FirstFrom t) (sym (items-pop (b .lines l h .moves) noTransit (omega arith))) f
 
   from-zero : T (le zeroF (t .0 .0))
   from-zero = le-trans zeroF (s .head .clock .0 .0) (t .0 .0) (b .clock) (ahead .from)
 
-  -- a due time of the old clock is not after that of the new one
-  due-later : NotAfter (spanAfter (s .head .clock) (spanOf (s .network .delay))) (spanAfter t (spanOf (s .network .delay)))
-  due-later =
+  -- a line's due time of the old clock is not after that of the new one
+  due-later : (l : ℕ) → NotAfter (spanAfter (s .head .clock) (spanOf (valuesOf (s .network) l .delay))) (spanAfter t (spanOf (valuesOf (s .network) l .delay)))
+  due-later l =
       let net = fit-network (s .network) (b .network) in
-      let delay = s .network .delay in
+      let delay = valuesOf (s .network) l .delay in
       due-order binary64 (s .head .clock .0 .0) (t .0 .0) delay (b .clock, ahead .from) (within-finite (t .0 .0) (power 41) (from-zero, ahead .held) tt)
-      (within-finite delay (power 40) (delay-within net) tt)
-      (delay-within net .0)
+      (within-finite delay (power 40) (delay-within net l) tt)
+      (delay-within net l .0)
 
   moved-body : Body (moved s j t)
   moved-body =
@@ -200,18 +202,19 @@ module _ (s : Simulation) (b : Body s) (t : Time) (ahead : Ahead (s .head .clock
         network = b .network;
         clock = from-zero;
         held = ahead .held;
-        line =
+        lines = λ l h.
+            let k = b .lines l h in
             record {
-              waits = b .line .waits;
-              moves = b .line .moves;
-              bits = b .line .bits;
+              waits = k .waits;
+              moves = k .moves;
+              bits = k .bits;
               waiting-ok = all-map (waiting c) (waiting t)
-                  (λ x w. record { packet = packet-later c t (ahead .from) (net .senders) (sentOf s) (x .packet) (w .packet); carries = w .carries }) (waitingItems s) (b .line .waiting-ok);
+                  (λ x w. record { packet = packet-later c t (ahead .from) (net .senders) (sentOf s) (x .packet) (w .packet); carries = w .carries }) (waitingItems s l) (k .waiting-ok);
               moving-ok =
-                  transits-later c t (ahead .from) (net .senders) (sentOf s) (net .delay) due-later (onLineItems s) (b .line .order) first-from (b .line .moving-ok);
-              order = b .line .order;
-              free = b .line .free;
-              words = b .line .words;
+                  transits-later c t (ahead .from) net (sentOf s) l (due-later l) (onLineItems s l) (k .order) (first-from l h) (k .moving-ok);
+              order = k .order;
+              free = k .free;
+              words = k .words;
             };
         parts = λ i h.
             let ok = b .parts i h in
@@ -259,17 +262,17 @@ module _ (s : Simulation) (b : Body s) (q : QueueOk s) where
         by (Some u) i a = picked-le (s .queue) e k i (held-known u (a .held)) (held-known t (picked-ahead .held))
 
     -- nor is an own next time
-    own-from : (role : Role) → Real (s .network .senders) role → FromIfAny t (ownTime s role)
+    own-from : (role : Role) → Real (s .network) role → FromIfAny t (ownTime s role)
     own-from role r =
-        let k = partOf role in
-        let h = part-inside (s .network .senders) role (few-senders (fit-network (s .network) (b .network))) r in
-        subst (λ (x : Role). FromIfAny t (ownTime s x)) (role-of (s .network .senders) role r)
+        let k = partOf (s .network .senders) role in
+        let h = part-inside (s .network) role (few-senders (fit-network (s .network) (b .network))) r in
+        subst (λ (x : Role). FromIfAny t (ownTime s x)) (role-of (s .network) role r)
         (from-same t (queuedAt s k) (nextTimeOf s k) (q k h .own) (queued-from k h))
 
     next-same : (k : ℕ) → sameTime (nextTimeOf s k) (nextTimeOf (moved s (next s) t) k) ≡ true
     next-same k =
         let s' = moved s (next s) t in
-        role-at (λ (role : Role). sameTime (ownTime s role) (ownTime s' role) ≡ true) (s .network .senders) k
+        role-at (λ (role : Role). sameTime (ownTime s role) (ownTime s' role) ≡ true) (s .network) k
         (λ role r i. own-same s b t picked-ahead (next s) own-from role r)
         (unfold ownTime in refl)
 
@@ -304,40 +307,41 @@ module _ (s : Simulation) (b : Body s) (q : QueueOk s) where
   some-queued : 1 ≤ s .network .senders → pickOf (s .queue) .time ≡ None → ⊥
   unfolding ownTime
   some-queued some e =
-      let role : roleOf (s .network .senders) 2 ≡ toggler 0 = role-of (s .network .senders) (toggler 0) some in
+      let role : roleIn (s .network) 2 ≡ toggler 0 = role-of (s .network) (toggler 0) some in
       let empty : queuedAt s 2 ≡ None = picked-nothing (s .queue) e 2 in
       let own : nextTimeOf s 2 ≡ Some (togglerAt s 0 .«next_toggle») = ap (ownTime s) role in
       false≢true (sym (ap₂ sameTime empty own) ∙ q 2 (omega arith) .own)
 
--- where a part is next there is a sender: the link is next only for a packet, which one sent
-some-sent : (s : Simulation) → Body s → sameTime (Some (s .head .clock)) (ownTime s link) ≡ true → 1 ≤ s .network .senders
+-- where a part is next there is a sender: a link is next only for a packet, which one sent
+some-sent : (s : Simulation) → Body s → (l : ℕ) → l < lineCount (s .network) → sameTime (Some (s .head .clock)) (ownTime s (link l)) ≡ true → 1 ≤ s .network .senders
 unfolding ownTime nextTick nextTransmit nextDeliver
-some-sent s b = by (eqb (s .line .waiting .count) 0) (eqb (s .line .«on_line» .count) 0) refl refl
+some-sent s b l inside = by (eqb (lineAt s l .waiting .count) 0) (eqb (lineAt s l .«on_line» .count) 0) refl refl
   where
-    by : (y z : Bool) → eqb (s .line .waiting .count) 0 ≡ y → eqb (s .line .«on_line» .count) 0 ≡ z
-        → sameTime (Some (s .head .clock)) (earliestOptOf (cond y None (Some (latestOf (s .head .clock) (s .line .«earliest_transmit»)))) (cond z None (Some (frontOf s .due)))) ≡ true
+    by : (y z : Bool) → eqb (lineAt s l .waiting .count) 0 ≡ y → eqb (lineAt s l .«on_line» .count) 0 ≡ z
+        → sameTime (Some (s .head .clock)) (earliestOptOf (cond y None (Some (latestOf (s .head .clock) (lineAt s l .«earliest_transmit»)))) (cond z None (Some (frontOf s l .due)))) ≡ true
         → 1 ≤ s .network .senders
     by true true e f h = absurd (false≢true h)
     by true false e f h =
-        let some : s .line .«on_line» .count ≡ 0 → ⊥ = eqb-false (s .line .«on_line» .count) 0 f in
-        let own : frontOf s .packet .sender < s .network .senders = front-ok s b (omega arith) .packet .own in
-        omega arith
+        let some : lineAt s l .«on_line» .count ≡ 0 → ⊥ = eqb-false (lineAt s l .«on_line» .count) 0 f in
+        let own : frontOf s l .packet .sender < s .network .senders = front-ok s b l inside (omega arith) .packet .own in
+        omega (arith, own)
     by false z e f h =
-        let some : s .line .waiting .count ≡ 0 → ⊥ = eqb-false (s .line .waiting .count) 0 e in
-        let ok = subst (All (WaitsOk (s .network) (sentOf s) (s .head .clock))) (items-pop (b .line .waits) noWaiting (omega arith)) (b .line .waiting-ok) in
-        let own : firstOf s .packet .sender < s .network .senders = ok .0 .packet .own in
-        omega arith
+        let some : lineAt s l .waiting .count ≡ 0 → ⊥ = eqb-false (lineAt s l .waiting .count) 0 e in
+        let ok = subst (All (WaitsOk (s .network) (sentOf s) (s .head .clock))) (items-pop (b .lines l inside .waits) noWaiting (omega arith)) (b .lines l inside .waiting-ok) in
+        let own : firstOf s l .packet .sender < s .network .senders = ok .0 .packet .own in
+        omega (arith, own)
 
 pub some-senders : (j : ℕ) (s : Simulation) → Between j s → 1 ≤ s .network .senders
 some-senders j s w =
-    role-at (λ (role : Role). sameTime (Some (s .head .clock)) (ownTime s role) ≡ true → 1 ≤ s .network .senders) (s .network .senders) j at
+    role-at (λ (role : Role). sameTime (Some (s .head .clock)) (ownTime s role) ≡ true → 1 ≤ s .network .senders) (s .network) j at
     (unfold ownTime in λ h. absurd (false≢true h))
     (w .own)
   where
-    at : (role : Role) → Real (s .network .senders) role → j ≡ partOf role → sameTime (Some (s .head .clock)) (ownTime s role) ≡ true → 1 ≤ s .network .senders
-    at link r e h = some-sent s (w .body) h
-    at (sender i) r e h = omega arith
-    at (toggler i) r e h = omega arith
+    at : (role : Role) → Real (s .network) role → j ≡ partOf (s .network .senders) role → sameTime (Some (s .head .clock)) (ownTime s role) ≡ true → 1 ≤ s .network .senders
+    at (link l) r e h = some-sent s (w .body) l r h
+    at bouncer r e h = absurd (false≢true (unfold ownTime in h))
+    at (sender i) r e h = omega (arith, r)
+    at (toggler i) r e h = omega (arith, r)
     at nobody r e h = absurd r
 
 pub picked-between : (s : Simulation) → Body s → QueueOk s → 1 ≤ s .network .senders → Between (pickOf (s .queue) .part) (picked s)

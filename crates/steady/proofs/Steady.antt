@@ -11,7 +11,7 @@ use Rattle.remy.specs.declared.simulation.Next.the-variants as Next
 use Rattle.remy.specs.declared.simulation.Simulation.{Simulation}
 use Rattle.remy.specs.declared.simulation.Built.{Built}
 use Rattle.remy.specs.declared.simulation.Ticked.{Ticked}
-use Rattle.remy.specs.State.{roleOf, onLineItems}
+use Rattle.remy.specs.State.{lineCount, roleIn, onLineItems}
 use Rattle.remy.specs.Fit.{every, fit}
 use Rattle.remy.specs.Build.{buildOf}
 use Rattle.remy.specs.Tick.{Outcome, moves, stops, outcomeOf, unmoved, ticked, tickNext, tickOf}
@@ -20,8 +20,8 @@ use Rattle.remy.proofs.Facts.{both-l, both-i, fit-state}
 use Rattle.remy.proofs.Front.{clock-bounded}
 use Rattle.remy.proofs.Steps.{cond-elim}
 use Rattle.remy.proofs.Outcomes.{OnMoves}
-use Rattle.remy.proofs.Fresh.{fresh-fit}
-use Rattle.steady.specs.Steady.{dueSoon, steady}
+use Rattle.remy.proofs.Fresh.{upTo-intro, fresh-fit}
+use Rattle.steady.specs.Steady.{dueSoon, soonFit, steady}
 use Rattle.steady.specs.Clock.{Typed, NeverBack}
 use Rattle.steady.proofs.Open.{opened}
 use Rattle.steady.proofs.Close.{closed}
@@ -36,7 +36,7 @@ pub record Steady (s : Simulation) : Type 0 where
 
 pub steady-fit : (s : Simulation) → steady s ≡ true → fit s ≡ true
 unfolding steady
-steady-fit s e = both-l (fit s) (every (dueSoon s) (onLineItems s)) e
+steady-fit s e = both-l (fit s) (soonFit s) e
 
 -- ---- every tick
 
@@ -52,9 +52,9 @@ tick-test s k =
     with-next : (x : Next) → s .head .next ≡ x → steady (tickNext s x .simulation) ≡ true
     with-next Next.None e = k .test
     with-next (Next.Part j) e =
-        cond-elim (λ (t : Ticked). steady (t .simulation) ≡ true) (lt (power 40) (s .head .clock .0 .0)) (unmoved s 10) (ticked s (outcomeOf s (roleOf (s .network .senders) j)))
+        cond-elim (λ (t : Ticked). steady (t .simulation) ≡ true) (lt (power 40) (s .head .clock .0 .0)) (unmoved s 10) (ticked s (outcomeOf s (roleIn (s .network) j)))
         (λ late. k .test)
-        (λ early. on-outcome s (k .test) (outcomeOf s (roleOf (s .network .senders) j))
+        (λ early. on-outcome s (k .test) (outcomeOf s (roleIn (s .network) j))
         (turn-lands s j (opened s j (k .test) (k .typed .full) e) (clock-bounded s (fit-state s (steady-fit s (k .test))) early) (k .typed .clock)))
 
 pub tick-steady : (s : Simulation) → Steady s → Steady (tickOf s .simulation)
@@ -62,12 +62,13 @@ tick-steady s k = record { test = tick-test s k; typed = tick-typed s (k .typed)
 
 -- ---- every state reached from a build
 
--- nothing is on the line of a built simulation
+-- nothing is on a line of a built simulation
 built-steady : (n : RemyNetwork) (seed : ℕ) → Steady (buildOf n seed .simulation)
 unfolding steady
 built-steady n seed =
     let s = buildOf n seed .simulation in
-    record { test = both-i (fit s) (every (dueSoon s) (onLineItems s)) (fresh-fit n seed) (ap (every (dueSoon s)) (built-none n seed)); typed = built-typed n seed }
+    let none : soonFit s ≡ true = upTo-intro (lineCount (s .network)) (λ l. every (dueSoon s l) (onLineItems s l)) (λ l h. ap (every (dueSoon s l)) (built-none n seed l)) in
+    record { test = both-i (fit s) (soonFit s) (fresh-fit n seed) none; typed = built-typed n seed }
 
 after-steady : (cs : List Call) (s : Simulation) → Steady s → Steady (after cs s)
 after-steady [] s k = k

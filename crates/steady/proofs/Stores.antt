@@ -1,13 +1,13 @@
--- A store at one sender, its toggler and its meter keeps what a state keeps, where the new part does and its sender has sent no less. Assumes nothing.
+-- A store at one sender, its toggler and its meter keeps what a state keeps, where the new part does and its sender has sent no less; and what a store leaves as it was.
+-- Assumes nothing.
 use mathlib.Core.Path.{_≡_, refl, sym, ap, subst, _∙_}
 use mathlib.Core.List.{List}
-use Prim.Native.Nat.{ℕ, _+_, _≤_, _<_}
+use Prim.Native.Nat.{ℕ, _+_, _%_, _≤_, _<_}
 use native.Mathlib.Nat.{le-trans, le-of-eq}
 use native.Mathlib.Decide.{ℕ-discrete}
 use native.Mathlib.Omega.{arith}
 use lib.ListN.{length, getD, set, length-set}
 use lib.Seq.{getD-set-same, getD-set-other}
-use lib.Ieee.{Float}
 use Rattle.quantities.specs.declared.time.Time.{Time}
 use Rattle.meters.specs.declared.meter.AverageFlowMeter.{AverageFlowMeter}
 use Rattle.link.specs.declared.packet.Packet.{Packet}
@@ -16,39 +16,40 @@ use Rattle.link.specs.declared.packet.Transit.{Transit}
 use Rattle.link.specs.declared.link.Line.{Line}
 use Rattle.sender.specs.declared.lossy.LossySender.{LossySender}
 use Rattle.toggler.specs.declared.toggler.Toggler.{Toggler}
-use Rattle.link.specs.Ring.{items}
+use Rattle.link.specs.declared.ring.Ring.{Ring}
+use Rattle.link.specs.Ring.{places, slotOf, items}
+use Rattle.link.proofs.Items.{Sound, items-same, store-sound}
 use Rattle.remy.specs.declared.network.RemyNetwork.{RemyNetwork}
 use Rattle.remy.specs.declared.simulation.Simulation.{Simulation}
-use Rattle.remy.specs.State.{noWaiting, noTransit, noSender, noToggler, noMeter, senderAt, waitingPackets, onLinePackets, senderBits, withSenders, withTogglers, withMeters}
-use Rattle.remy.specs.Fit.{countOf}
+use Rattle.remy.specs.State.{noWaiting, noTransit, noSender, noToggler, noMeter, lineAt, senderAt, senderBits, withSenders, withTogglers, withMeters}
 use Rattle.remy.proofs.Networks.{fit-network, few-senders}
-use Rattle.steady.proofs.Facts.{PacketOk, WaitsOk, TransitOk, LineOk, PartOk, sentOf, Body}
+use Rattle.steady.proofs.Facts.{PacketOk, WaitsOk, TransitOk, LineOk, PartOk, sentOf, allUnderWay, Body}
 use Rattle.remy.proofs.Lists.{all-map}
 
 -- ---- more packets sent
 
-module _ (n : ℕ) (sent sent' : ℕ → ℕ) (more : (i : ℕ) → sent i ≤ sent' i) (clock : Time) where
-  packet-more : (p : Packet) → PacketOk n sent clock p → PacketOk n sent' clock p
+module _ (net : RemyNetwork) (sent sent' : ℕ → ℕ) (more : (i : ℕ) → sent i ≤ sent' i) (clock : Time) where
+  packet-more : (p : Packet) → PacketOk (net .senders) sent clock p → PacketOk (net .senders) sent' clock p
   packet-more p k = record { own = k .own; first = k .first; last = le-trans (k .last) (more (p .sender)); past = k .past }
 
-  transit-more : (delay : Float) (x : Transit) → TransitOk n sent clock delay x → TransitOk n sent' clock delay x
-  transit-more delay x k = record { packet = packet-more (x .packet) (k .packet); held = k .held; ahead = k .ahead; soon = k .soon }
+  waits-more : (x : Waiting) → WaitsOk net sent clock x → WaitsOk net sent' clock x
+  waits-more x k = record { packet = packet-more (x .packet) (k .packet); carries = k .carries }
 
-line-more : (net : RemyNetwork) (sent sent' : ℕ → ℕ) → ((i : ℕ) → sent i ≤ sent' i) → (clock : Time) (l : Line) (waiting : List Waiting) (moving : List Transit)
-    → LineOk net sent clock l waiting moving → LineOk net sent' clock l waiting moving
-line-more net sent sent' more clock l waiting moving k =
-    record {
-      waits = k .waits;
-      moves = k .moves;
-      bits = k .bits;
-      waiting-ok = all-map (WaitsOk net sent clock) (WaitsOk net sent' clock)
-          (λ x w. record { packet = packet-more (net .senders) sent sent' more clock (x .packet) (w .packet); carries = w .carries }) (items noWaiting waiting (l .waiting)) (k .waiting-ok);
-      moving-ok = all-map (TransitOk (net .senders) sent clock (net .delay)) (TransitOk (net .senders) sent' clock (net .delay))
-          (transit-more (net .senders) sent sent' more clock (net .delay)) (items noTransit moving (l .«on_line»)) (k .moving-ok);
-      order = k .order;
-      free = k .free;
-      words = k .words;
-    }
+  transit-more : (l : ℕ) (x : Transit) → TransitOk net sent clock l x → TransitOk net sent' clock l x
+  transit-more l x k = record { packet = packet-more (x .packet) (k .packet); held = k .held; ahead = k .ahead; soon = k .soon }
+
+  line-more : (l : ℕ) (x : Line) (waiting : List Waiting) (moving : List Transit) → LineOk net sent clock l x waiting moving → LineOk net sent' clock l x waiting moving
+  line-more l x waiting moving k =
+      record {
+        waits = k .waits;
+        moves = k .moves;
+        bits = k .bits;
+        waiting-ok = all-map (WaitsOk net sent clock) (WaitsOk net sent' clock) waits-more (items noWaiting waiting l (x .waiting)) (k .waiting-ok);
+        moving-ok = all-map (TransitOk net sent clock l) (TransitOk net sent' clock l) (transit-more l) (items noTransit moving l (x .«on_line»)) (k .moving-ok);
+        order = k .order;
+        free = k .free;
+        words = k .words;
+      }
 
 -- ---- lists that differ at i, where the new one has x
 
@@ -62,6 +63,29 @@ unset d l i = record { size = refl; at = refl; others = λ j other. refl }
 
 pub set-at : {A : Type 0} (d : A) (l : List A) (i : ℕ) (x : A) → i < length l → Anew d l i x (set l i x)
 set-at d l i x h = record { size = length-set l i x; at = getD-set-same l i x d h; others = λ j other. getD-set-other l i j x d other }
+
+-- ---- slots that differ in ring l alone
+
+pub record Beside {A : Type 0} (d : A) (slots : List A) (l : ℕ) (slots' : List A) : Type 0 where
+  pub size : length slots' ≡ length slots
+  pub sound : {m : ℕ} {r : Ring} → Sound slots m r → Sound slots' m r
+  pub others : (m p : ℕ) → (m ≡ l → ⊥) → p < places → getD slots' (slotOf m p) d ≡ getD slots (slotOf m p) d
+
+module _ {A : Type 0} (d : A) (slots : List A) (l : ℕ) where
+  pub beside-self : Beside d slots l slots
+  beside-self = record { size = refl; sound = λ k. k; others = λ m p other h. refl }
+
+  pub beside-set : (p : ℕ) (x : A) → p < places → Beside d slots l (set slots (slotOf l p) x)
+  beside-set p x h =
+      record {
+        size = length-set slots (slotOf l p) x;
+        sound = λ k. store-sound k (slotOf l p) x;
+        others = λ m q other k. getD-set-other slots (slotOf l p) (slotOf m q) x d (λ e. other (omega (arith, h, k, e)));
+      }
+
+  -- the items of another ring
+  pub beside-items : {slots' : List A} → Beside d slots l slots' → (m : ℕ) (r : Ring) → (m ≡ l → ⊥) → items d slots' m r ≡ items d slots m r
+  beside-items {slots'} b m r other = items-same d slots' m r slots (λ i h. b .others m ((r .start + i) % places) other (omega arith))
 
 -- ---- the store
 
@@ -87,14 +111,14 @@ module _ (s : Simulation) (b : Body s) (i : ℕ) (h : i < s .network .senders) w
     sent-more j (no other) = le-of-eq (ap (λ y. y .«packets_sent») (sym (new-sender .others j other)))
 
     module _ (part : PartOk (s .network .policy) (senderBits (s .network) i .0) (s .head .clock) x t m)
-        (room : m .records + countOf i (waitingPackets s) + countOf i (onLinePackets s) ≤ x .«packets_sent») where
+        (room : m .records + allUnderWay s i ≤ x .«packets_sent») where
       parts : (j : ℕ) → j < s .network .senders → Dec (j ≡ i)
           → PartOk (s .network .policy) (senderBits (s .network) j .0) (s .head .clock) (getD xs j noSender) (getD ts j noToggler) (getD ms j noMeter)
       parts j g (yes same) = rw (same, new-sender .at, new-toggler .at, new-meter .at) part
       parts j g (no other) = rw (new-sender .others j other, new-toggler .others j other, new-meter .others j other) (b .parts j g)
 
       records : (j : ℕ) → j < s .network .senders → Dec (j ≡ i)
-          → getD ms j noMeter .records + countOf j (waitingPackets s) + countOf j (onLinePackets s) ≤ getD xs j noSender .«packets_sent»
+          → getD ms j noMeter .records + allUnderWay s j ≤ getD xs j noSender .«packets_sent»
       records j g (yes same) = rw (same, new-sender .at, new-meter .at) room
       records j g (no other) = rw (new-sender .others j other, new-meter .others j other) (b .records j g)
 
@@ -102,6 +126,7 @@ module _ (s : Simulation) (b : Body s) (i : ℕ) (h : i < s .network .senders) w
       store =
           record {
             full = record {
+              lines = b .full .lines;
               waiting = b .full .waiting;
               moving = b .full .moving;
               senders = new-sender .size ∙ b .full .senders;
@@ -112,7 +137,9 @@ module _ (s : Simulation) (b : Body s) (i : ℕ) (h : i < s .network .senders) w
             network = b .network;
             clock = b .clock;
             held = b .held;
-            line = line-more (s .network) (sentOf s) (λ j. getD xs j noSender .«packets_sent») (λ j. sent-more j (ℕ-discrete j i)) (s .head .clock) (s .line) (s .waiting) (s .«on_line») (b .line);
+            lines = λ l g.
+                line-more (s .network) (sentOf s) (λ j. getD xs j noSender .«packets_sent») (λ j. sent-more j (ℕ-discrete j i)) (s .head .clock) l (lineAt s l) (s .waiting) (s .«on_line»)
+                (b .lines l g);
             parts = λ j g. parts j g (ℕ-discrete j i);
             records = λ j g. records j g (ℕ-discrete j i);
           }

@@ -1,18 +1,20 @@
 -- Each part's turn keeps a steady state: what it stores, requeues and picks. Assumes nothing.
 use mathlib.Core.Path.{_≡_, refl, sym, subst}
-use mathlib.Core.Bool.{Bool, true, false, cond}
-use mathlib.Core.List.{[], _∷_}
-use Prim.Native.Nat.{ℕ, _≤_, _<_}
+use mathlib.Core.Bool.{Bool, true, false, cond, false≢true}
+use mathlib.Core.List.{List, [], _∷_}
+use Prim.Native.Nat.{ℕ, zero, suc, _+_, _≤_, _<_}
+use native.Mathlib.Nat.{le-of-eq}
 use native.Mathlib.Omega.{arith}
-use borrow.Author.Tests.{eqb-true}
+use borrow.Author.Tests.{eq-eqb, eqb-true}
 use lib.Dec.{T, leb, eqb}
 use lib.Ieee.{lt, le}
-use lib.ListN.{set}
 use Rattle.quantities.specs.Doubles.{power}
 use Rattle.quantities.specs.Units.{spanOf, rateOf}
 use Rattle.rand.specs.Draws.{unitOf}
 use Rattle.meters.specs.Meter.{switchedOf}
 use Rattle.link.specs.declared.packet.Packet.{Packet}
+use Rattle.link.specs.declared.packet.Waiting.{Waiting}
+use Rattle.link.specs.declared.packet.Transit.{Transit}
 use Rattle.link.specs.declared.link.Line.{Line}
 use Rattle.link.specs.declared.link.Arrival.{Arrival}
 use Rattle.link.specs.declared.link.Left.{Left}
@@ -26,7 +28,7 @@ use Rattle.sender.specs.declared.lossy.LossySender.{LossySender}
 use Rattle.sender.specs.declared.lossy.Heard.{Heard}
 use Rattle.sender.specs.declared.lossy.Heard.the-variants as Heard
 use Rattle.toggler.specs.declared.toggler.Toggled.{Toggled}
-use Rattle.link.specs.Ring.{places, placeAfter}
+use Rattle.link.specs.Ring.{places}
 use Rattle.link.specs.Link.{admits, admitted, receiveOf, isDue, departed, tryDeliver, isFree, notStarted, tryTransmit}
 use Rattle.sender.specs.Sender.{tickTimer, tickSend, timerDue, returnedOf}
 use Rattle.toggler.specs.Toggler.{toggleOf}
@@ -37,17 +39,19 @@ use Rattle.remy.specs.declared.simulation.Simulation.{Simulation}
 use Rattle.remy.specs.declared.simulation.Mark.the-variants as Mark
 use Rattle.remy.specs.declared.simulation.Name.the-variants as Name
 use Rattle.remy.specs.declared.simulation.TickRecord.{TickRecord}
-use Rattle.remy.specs.State.{Role, link, sender, toggler, nobody, roleOf, senderPart, togglerPart, senderAt, togglerAt, meterAt, firstOf, frontOf, packetBits, withLine, withWaiting, withSender, withToggler, withMeter}
+use Rattle.remy.specs.State.{hasBack, lineCount, valuesOf, Role, link, bouncer, sender, toggler, nobody, roleIn, senderPart, togglerPart, lineAt, senderAt, togglerAt, meterAt, firstOf, frontOf, packetBits, withSender, withToggler, withMeter}
 use Rattle.remy.specs.Queue.{ownTime, partOf, requeue, picked}
-use Rattle.remy.specs.Tick.{named, recordAt, arrives, returns, switches, Acted, stopped, linkWith, linkActs, enabledSender, timerWith, sendWith, senderWith, senderActs, togglerActs, actsOf, Outcome, moves, stops, waitsWith, arriveWith, heardMeter, switchedSender, deliver, pickAgain, outcomeWith, outcomeOf}
+use Rattle.remy.specs.Fit.{underWay}
+use Rattle.remy.specs.Tick.{named, recordAt, Message, arrives, bounces, returns, switches, Acted, stopped, leftRecord, toBouncer, leftMessages, linkWith, linkActs, enabledSender, timerWith, sendWith, senderWith, senderActs, togglerActs, actsOf, Outcome, moves, stops, arriveWith, heardMeter, switchedSender, deliver, deliverAll, pickAgain, outcomeWith, outcomeOf}
+use Rattle.remy.proofs.Facts.{first-there, second-there}
 use Rattle.remy.proofs.Steps.{cond-elim}
 use Rattle.remy.proofs.Outcomes.{OnMoves, on-stopped}
 use Rattle.remy.proofs.Roles.{Real, role-at}
-use Rattle.steady.proofs.Facts.{Body, Loose, QueueBut, QueueOk, Between}
+use Rattle.steady.proofs.Facts.{PacketOk, sentOf, Body, Loose, QueueBut, QueueOk, Between, allUnderWay}
 use Rattle.steady.proofs.Requeue.{line-changes, sender-changes, toggler-changes, meter-changes, requeued-ahead, requeued, requeue-body}
 use Rattle.steady.proofs.Pick.{some-senders, picked-between}
 use Rattle.steady.proofs.Times.{Early}
-use Rattle.steady.proofs.LineSteps.{begun, started, leave-body, leave-loose, start-body, start-loose, arrive-body}
+use Rattle.steady.proofs.LineSteps.{countIn, LineNew, renewed, line-body, line-loose, firstBy, begun, started, withBegun, withArrived, line-now, leave-line, leave-packet, leave-count, start-line, start-count, arrive-line, arrive-room}
 use Rattle.steady.proofs.PartSteps.{timer-body, send-body, send-loose, return-body, toggle-body}
 
 -- ---- before the pick, and after it
@@ -75,7 +79,7 @@ lands (stops n) k = tt
 lands (moves r m) k = land m k
 
 -- a state whose part is queued again
-ready : (s : Simulation) (role : Role) → Body s → Real (s .network .senders) role → QueueBut (partOf role) s → 1 ≤ s .network .senders → Ready (requeue s role)
+ready : (s : Simulation) (role : Role) → Body s → Real (s .network) role → QueueBut (partOf (s .network .senders) role) s → 1 ≤ s .network .senders → Ready (requeue s role)
 unfolding requeue
 ready s role b real q some = record { body = requeue-body s role b; queue = requeued s role b real q; some = some }
 
@@ -88,22 +92,32 @@ loose-requeued : (s : Simulation) (role : Role) (p : Packet) → Loose s p → L
 unfolding requeue
 loose-requeued s role p l = record { packet = l .packet; room = l .room }
 
--- ---- a packet that starts, or does not: the line alone changes
+-- ---- a line anew: its link is queued again
 
-module _ (s : Simulation) (b : Body s) (early : Early (s .head .clock)) where
-  transmit-elim : (F : Transmitted → Type 0) → F (notStarted (s .line) 0) → ((m : ℕ) → eqb m 0 ≡ false → F (notStarted (s .line) m))
-      → (Body (started s) → ((p : Packet) → Loose s p → Loose (started s) p) → F (record { number = 0; begun = Begun.Starts (begun s); line = started s .line }))
-      → F (tryTransmit (s .line) (s .head .clock) (firstOf s) (spanOf (s .network .delay)) (rateOf (s .network .rate)))
-  unfolding tryTransmit
-  transmit-elim F none stop go =
-      let l = s .line in
-      let clock = s .head .clock in
-      let starts : Transmitted = record { number = 0; begun = Begun.Starts (begun s); line = started s .line } in
-      cond-elim F (isFree l clock) (cond (leb places (l .«on_line» .count)) (notStarted l 13) starts) (notStarted l 0)
-      (λ e. cond-elim F (leb places (l .«on_line» .count)) (notStarted l 13) starts
-      (λ full. stop 13 refl)
-      (λ room. go (start-body s b early e room) (start-loose s b early e room)))
-      (λ e. none)
+line-ready : (s : Simulation) → Body s → (l : ℕ) → l < lineCount (s .network) → (x : Line) (waiting : List Waiting) (moving : List Transit) → LineNew s l x waiting moving
+    → ((i : ℕ) → i < s .network .senders → meterAt s i .records + allUnderWay s i + countIn i l x waiting moving ≤ senderAt s i .«packets_sent» + underWay s i l)
+    → QueueBut (partOf (s .network .senders) (link l)) s → 1 ≤ s .network .senders → Ready (requeue (renewed s l x waiting moving) (link l))
+line-ready s b l h x waiting moving new room q some =
+    ready (renewed s l x waiting moving) (link l) (line-body s b l h x waiting moving new room) h (line-changes s b l x waiting moving (new .moves) q) some
+
+-- ---- a packet that arrives at line l: admitted, dropped full, or refused
+
+arrival : (s : Simulation) (r : TickRecord) (l : ℕ) (p : Packet) → l < lineCount (s .network) → Ready s → Loose s p → OnMoves ReadyBy (deliver r s (arrives l p))
+unfolding deliver receiveOf
+arrival s r l p h k loose =
+    let x = lineAt s l in
+    let bits = packetBits (s .network) p in
+    let rest = but s (partOf (s .network .senders) (link l)) (k .queue) in
+    let dropped : Arrival = record { number = 0; admitted = false; line = x } in
+    let taken : Arrival = record { number = 0; admitted = true; line = admitted x bits } in
+    let full : Arrival = record { number = 12; admitted = false; line = x } in
+    let F : Arrival → Type 0 = λ a. OnMoves ReadyBy (arriveWith r s l p a) in
+    cond-elim F (admits (valuesOf (s .network) l .limit) (x .«buffer_contains») bits) (cond (leb places (x .waiting .count)) full taken) dropped
+    (λ fits. cond-elim F (leb places (x .waiting .count)) full taken
+    (λ none. tt)
+    (λ room.
+    line-ready s (k .body) l h (admitted x bits) (withArrived s l p) (s .«on_line») (arrive-line s (k .body) l h p loose room) (arrive-room s (k .body) l h p loose room) rest (k .some)))
+    (λ over. ready s (link l) (k .body) h rest (k .some))
 
 -- ---- a packet that comes back
 
@@ -128,72 +142,86 @@ module _ (s : Simulation) (b : Body s) (q : QueueOk s) (early : Early (s .head .
       ready m (sender (p .sender)) (return-body s b early p l) (subst (λ (n : RemyNetwork). p .sender < n .senders) (sym same) (l .packet .own)) (heard-queue (x .sender) (x .heard))
       (subst (λ (n : RemyNetwork). 1 ≤ n .senders) (sym same) (omega (arith, l .packet .own)))
 
--- ---- the link's turn
+-- ---- a packet that the bouncer passes on to the second line; the bouncer itself is queued at no time
 
-module _ (s : Simulation) (b : Between 0 s) (early : Early (s .head .clock)) where
-  -- the line changed, and the link is queued again
-  link-ready : (m : Simulation) → m .network ≡ s .network → m .head ≡ s .head → m .senders ≡ s .senders → m .togglers ≡ s .togglers → m .queue ≡ s .queue → Body m → Ready (requeue m link)
-  link-ready m n h x t q body = ready m link body tt (line-changes s m n h x t q (b .queue)) (subst (λ (x : RemyNetwork). 1 ≤ x .senders) (sym n) (some-senders 0 s b))
+has-back : (n : RemyNetwork) (l : ℕ) → toBouncer n l ≡ true → hasBack (n .back) ≡ true
+has-back n zero e = e
+has-back n (suc l) e = absurd (false≢true e)
 
-  refused : (left : Left) (l : Line) (m : ℕ) → eqb m 0 ≡ false → OnMoves LandedBy (outcomeWith link (linkWith s (record { left = left; line = l }) (notStarted l m)))
-  refused left l m e = rw e (on-stopped LandedBy link s m e)
+passed-on : (s : Simulation) (r : TickRecord) (p : Packet) → hasBack (s .network .back) ≡ true → Ready s → Loose s p → OnMoves ReadyBy (deliverAll (moves r s) (bounces p ∷ []))
+unfolding deliver
+passed-on s r p there k loose =
+    arrival (requeue s bouncer) r 1 p (unfold requeue in second-there (hasBack (s .network .back)) there)
+    (ready s bouncer (k .body) there (but s (partOf (s .network .senders) bouncer) (k .queue)) (k .some)) (loose-requeued s bouncer p loose)
 
-  -- nothing leaves
-  stays : OnMoves LandedBy
-      (outcomeWith link
-      (linkWith s (record { left = Left.Nobody; line = s .line })
-      (tryTransmit (s .line) (s .head .clock) (firstOf s) (spanOf (s .network .delay)) (rateOf (s .network .rate)))))
-  stays =
-      transmit-elim s (b .body) early (λ (t : Transmitted). OnMoves LandedBy (outcomeWith link (linkWith s (record { left = Left.Nobody; line = s .line }) t)))
-      (land (requeue s link) (link-ready s refl refl refl refl refl (b .body)))
-      (refused Left.Nobody (s .line))
-      (λ body stay. land (requeue (started s) link) (link-ready (started s) refl refl refl refl refl body))
+-- ---- the turn of line l's link
 
-  module _ (e : isDue (s .line) (s .head .clock) (frontOf s) ≡ true) where
-    gone : Simulation
-    gone = withLine s (departed (s .line))
+-- how many of sender i's packets left and are not lost
+abbrev outOf : Left → ℕ → ℕ
+outOf Left.Nobody i = 0
+outOf (Left.Lost p) i = 0
+outOf (Left.Out p) i = cond (eqb (p .sender) i) 1 0
 
-    gone-body : Body gone
-    unfolding gone
-    gone-body = leave-body s (b .body) e
+-- such a packet is one that its sender sent
+abbrev OutOk : Simulation → Left → Type 0
+OutOk s Left.Nobody = Unit {0}
+OutOk s (Left.Lost p) = Unit {0}
+OutOk s (Left.Out p) = PacketOk (s .network .senders) (sentOf s) (s .head .clock) p
 
-    loses : OnMoves LandedBy
-        (outcomeWith link
-        (linkWith s (record { left = Left.Lost (frontOf s .packet); line = departed (s .line) })
-        (tryTransmit (departed (s .line)) (s .head .clock) (firstOf s) (spanOf (s .network .delay)) (rateOf (s .network .rate)))))
-    unfolding gone
-    loses =
-        transmit-elim gone gone-body early (λ (t : Transmitted). OnMoves LandedBy (outcomeWith link (linkWith s (record { left = Left.Lost (frontOf s .packet); line = departed (s .line) }) t)))
-        (land (requeue gone link) (link-ready gone refl refl refl refl refl gone-body))
-        (refused (Left.Lost (frontOf s .packet)) (departed (s .line)))
-        (λ body stay. land (requeue (started gone) link) (link-ready (started gone) refl refl refl refl refl body))
+module _ (s : Simulation) (l : ℕ) (h : l < lineCount (s .network)) (b : Between (partOf (s .network .senders) (link l)) s) (early : Early (s .head .clock)) where
+  -- the line after it, with what left: the link is queued again, and what left is delivered
+  module _ (r : TickRecord) (x : Line) (moving : List Transit) (new : LineNew s l x (s .waiting) moving) where
+    link-ready : ((i : ℕ) → countIn i l x (s .waiting) moving ≤ underWay s i l) → Ready (requeue (renewed s l x (s .waiting) moving) (link l))
+    link-ready fewer =
+        line-ready s (b .body) l h x (s .waiting) moving new (λ i g. omega (arith, b .body .records i g, fewer i)) (b .queue) (some-senders (partOf (s .network .senders) (link l)) s b)
 
-    comes : OnMoves LandedBy
-        (outcomeWith link
-        (linkWith s (record { left = Left.Out (frontOf s .packet); line = departed (s .line) })
-        (tryTransmit (departed (s .line)) (s .head .clock) (firstOf s) (spanOf (s .network .delay)) (rateOf (s .network .rate)))))
-    unfolding gone
-    comes =
-        let p = frontOf s .packet in
-        let loose : Loose gone p = leave-loose s (b .body) e in
-        transmit-elim gone gone-body early (λ (t : Transmitted). OnMoves LandedBy (outcomeWith link (linkWith s (record { left = Left.Out p; line = departed (s .line) }) t)))
-        (let k = link-ready gone refl refl refl refl refl gone-body in
-        lands (deliver (recordAt s link Mark.None (named p) Name.None) (requeue gone link) (returns p)) (back (requeue gone link) (k .body) (k .queue) (unfold requeue in early) (recordAt s link Mark.None (named p) Name.None) p (loose-requeued gone link p loose)))
-        (refused (Left.Out p) (departed (s .line)))
-        (λ body stay.
-        let k = link-ready (started gone) refl refl refl refl refl body in
-        lands (deliver (recordAt s link Mark.None (named p) (named (firstOf s .packet))) (requeue (started gone) link) (returns p)) (back (requeue (started gone) link) (k .body) (k .queue) (unfold requeue in early) (recordAt s link Mark.None (named p) (named (firstOf s .packet))) p (loose-requeued (started gone) link p (stay p loose))))
+    goes-on : (left : Left) → OutOk s left → ((i : ℕ) → countIn i l x (s .waiting) moving + outOf left i ≤ underWay s i l)
+        → OnMoves LandedBy (pickAgain (deliverAll (moves r (requeue (renewed s l x (s .waiting) moving) (link l))) (leftMessages (s .network) l left)))
+    goes-on Left.Nobody own fewer = land (requeue (renewed s l x (s .waiting) moving) (link l)) (link-ready (λ i. omega (arith, fewer i)))
+    goes-on (Left.Lost p) own fewer = land (requeue (renewed s l x (s .waiting) moving) (link l)) (link-ready (λ i. omega (arith, fewer i)))
+    goes-on (Left.Out p) own fewer =
+        let m = requeue (renewed s l x (s .waiting) moving) (link l) in
+        let k : Ready m = link-ready (λ i. omega (arith, fewer i)) in
+        let one : countIn (p .sender) l x (s .waiting) moving + 1 ≤ underWay s (p .sender) l = rw (eq-eqb (p .sender) (p .sender) refl) at (fewer (p .sender)) in
+        let loose : Loose m p = loose-requeued (renewed s l x (s .waiting) moving) (link l) p (line-loose s (b .body) l h x (s .waiting) moving new p own one) in
+        cond-elim (λ (y : Message). OnMoves LandedBy (pickAgain (deliverAll (moves r m) (y ∷ [])))) (toBouncer (s .network) l) (bounces p) (returns p)
+        (λ e. lands (deliverAll (moves r m) (bounces p ∷ [])) (passed-on m r p (unfold requeue in has-back (s .network) l e) k loose))
+        (λ e. lands (deliver r m (returns p)) (back m (k .body) (k .queue) (unfold requeue in early) r p loose))
 
-  link-lands : OnMoves LandedBy (outcomeOf s link)
+  -- what left, then a packet that starts or does not
+  turn : (left : Left) (x : Line) → LineNew s l x (s .waiting) (s .«on_line») → OutOk s left → ((i : ℕ) → countIn i l x (s .waiting) (s .«on_line») + outOf left i ≤ underWay s i l)
+      → OnMoves LandedBy
+      (outcomeWith (link l)
+      (linkWith s l (record { left = left; line = x })
+      (tryTransmit x (s .head .clock) (firstBy s l x) (spanOf (valuesOf (s .network) l .delay)) (rateOf (valuesOf (s .network) l .rate)))))
+  unfolding tryTransmit
+  turn left x new own fewer =
+      let clock = s .head .clock in
+      let F : Transmitted → Type 0 = λ t. OnMoves LandedBy (outcomeWith (link l) (linkWith s l (record { left = left; line = x }) t)) in
+      let starts : Transmitted = record { number = 0; begun = Begun.Starts (begun s l x); line = started s l x } in
+      cond-elim F (isFree x clock) (cond (leb places (x .«on_line» .count)) (notStarted x 13) starts) (notStarted x 0)
+      (λ e. cond-elim F (leb places (x .«on_line» .count)) (notStarted x 13) starts
+      (λ full. tt)
+      (λ room.
+      goes-on (leftRecord s l left (named (firstBy s l x .packet))) (started s l x) (withBegun s l x) (start-line s (b .body) l h early x new e room) left own
+      (λ i. omega (arith, fewer i, start-count s (b .body) l h early x new e room i))))
+      (λ e. goes-on (leftRecord s l left Name.None) x (s .«on_line») new left own fewer)
+
+  link-lands : OnMoves LandedBy (outcomeOf s (link l))
   unfolding outcomeOf actsOf linkActs tryDeliver
   link-lands =
-      let lost : Delivered = record { left = Left.Lost (frontOf s .packet); line = departed (s .line) } in
-      let out : Delivered = record { left = Left.Out (frontOf s .packet); line = departed (s .line) } in
-      let G : Delivered → Type 0 = λ d. OnMoves LandedBy
-      (outcomeWith link (linkWith s d (tryTransmit (d .line) (s .head .clock) (firstOf s) (spanOf (s .network .delay)) (rateOf (s .network .rate))))) in
-      cond-elim G (isDue (s .line) (s .head .clock) (frontOf s)) (cond (lt (unitOf (s .line .rng) .value) (s .network .loss)) lost out) (record { left = Left.Nobody; line = s .line })
-      (λ e. cond-elim G (lt (unitOf (s .line .rng) .value) (s .network .loss)) lost out (λ h. loses e) (λ h. comes e))
-      (λ e. stays)
+      let x = lineAt s l in
+      let p = frontOf s l .packet in
+      let v = valuesOf (s .network) l in
+      let sample = lt (unitOf (x .rng) .value) (v .loss) in
+      let lost : Delivered = record { left = Left.Lost p; line = departed x } in
+      let out : Delivered = record { left = Left.Out p; line = departed x } in
+      let G : Delivered → Type 0 = λ d. OnMoves LandedBy (outcomeWith (link l) (linkWith s l d (tryTransmit (d .line) (s .head .clock) (firstOf s l) (spanOf (v .delay)) (rateOf (v .rate))))) in
+      cond-elim G (isDue x (s .head .clock) (frontOf s l)) (cond sample lost out) (record { left = Left.Nobody; line = x })
+      (λ e. cond-elim G sample lost out
+      (λ below. turn (Left.Lost p) (departed x) (leave-line s (b .body) l h e) tt (λ i. omega (arith, leave-count s (b .body) l h e i)))
+      (λ below. turn (Left.Out p) (departed x) (leave-line s (b .body) l h e) (leave-packet s (b .body) l h e) (λ i. le-of-eq (leave-count s (b .body) l h e i))))
+      (λ e. turn Left.Nobody x (line-now s (b .body) l h) tt (λ i. omega arith))
 
 -- ---- a sender's turn
 
@@ -204,22 +232,6 @@ module _ (s : Simulation) (i : ℕ) (h : i < s .network .senders) (b : Between (
   -- the sender anew, queued again
   sender-ready : (x : LossySender) → Body (withSender s i x) → Ready (requeue (withSender s i x) (sender i))
   sender-ready x body = ready (withSender s i x) (sender i) body h (sender-changes s i x (b .queue)) some-sender
-
-  -- admitted, dropped full, or refused
-  arrival : (st : Simulation) (r : TickRecord) (p : Packet) → Ready st → Loose st p → OnMoves ReadyBy (deliver r st (arrives p))
-  unfolding deliver receiveOf
-  arrival st r p k l =
-      let dropped : Arrival = record { number = 0; admitted = false; line = st .line } in
-      let taken : Arrival = record { number = 0; admitted = true; line = admitted (st .line) (packetBits (st .network) p) } in
-      let full : Arrival = record { number = 12; admitted = false; line = st .line } in
-      let F : Arrival → Type 0 = λ a. OnMoves ReadyBy (arriveWith r st p a) in
-      cond-elim F (admits (st .network .limit) (st .line .«buffer_contains») (packetBits (st .network) p)) (cond (leb places (st .line .waiting .count)) full taken) dropped
-      (λ fits. cond-elim F (leb places (st .line .waiting .count)) full taken
-      (λ none. tt)
-      (λ room.
-      let m = withLine (withWaiting st (set (st .waiting) (placeAfter (st .line .waiting)) (waitsWith st p))) (admitted (st .line) (packetBits (st .network) p)) in
-      ready m link (arrive-body st (k .body) p l room) tt (line-changes st m refl refl refl refl refl (but st 0 (k .queue))) (k .some)))
-      (λ over. ready st link (k .body) tt (but st 0 (k .queue)) (k .some))
 
   turn-with : (x : SenderState) → senderAt s i .state ≡ x → OnMoves LandedBy (outcomeWith (sender i) (senderWith s i x))
   turn-with State.WaitingForEnable q = tt
@@ -237,7 +249,7 @@ module _ (s : Simulation) (i : ℕ) (h : i < s .network .senders) (b : Between (
         number = 0;
         note = recordAt s (sender i) Mark.None (named (u .packet)) Name.None;
         simulation = withSender s i (enabledSender (senderAt s i) (u .«packets_sent») (u .enabled));
-        messages = arrives (u .packet) ∷ [];
+        messages = arrives 0 (u .packet) ∷ [];
       })
       (stopped s (u .number))
       (λ z.
@@ -245,8 +257,9 @@ module _ (s : Simulation) (i : ℕ) (h : i < s .network .senders) (b : Between (
       let zero-is = eqb-true (u .number) 0 z in
       let st = requeue (withSender s i x) (sender i) in
       let r = recordAt s (sender i) Mark.None (named (u .packet)) Name.None in
-      lands (deliver r st (arrives (u .packet)))
-      (arrival st r (u .packet) (sender-ready x (send-body s (b .body) early i h e q zero-is)) (loose-requeued (withSender s i x) (sender i) (u .packet) (send-loose s (b .body) early i h e q zero-is))))
+      lands (deliver r st (arrives 0 (u .packet)))
+      (arrival st r 0 (u .packet) (first-there (hasBack (st .network .back))) (sender-ready x (send-body s (b .body) early i h e q zero-is))
+      (loose-requeued (withSender s i x) (sender i) (u .packet) (send-loose s (b .body) early i h e q zero-is))))
       (λ z. on-stopped LandedBy (sender i) s (u .number) z))
 
   sender-lands : OnMoves LandedBy (outcomeOf s (sender i))
@@ -298,19 +311,16 @@ module _ (s : Simulation) (i : ℕ) (h : i < s .network .senders) (b : Between (
 
 -- ---- every turn
 
-nobody-lands : (s : Simulation) → OnMoves LandedBy (outcomeOf s nobody)
-unfolding outcomeOf actsOf
-nobody-lands s = tt
-
 pub turn-lands : (s : Simulation) (j : ℕ) → Between j s → T (le (s .head .clock .0 .0) (power 40)) → Double (s .head .clock)
-    → OnMoves LandedBy (outcomeOf s (roleOf (s .network .senders) j))
-turn-lands s j b high double = role-at (λ (role : Role). OnMoves LandedBy (outcomeOf s role)) (s .network .senders) j at (nobody-lands s)
+    → OnMoves LandedBy (outcomeOf s (roleIn (s .network) j))
+turn-lands s j b high double = role-at (λ (role : Role). OnMoves LandedBy (outcomeOf s role)) (s .network) j at (unfold outcomeOf actsOf in tt)
   where
     early : Early (s .head .clock)
     early = record { low = b .body .clock; high = high; double = double }
 
-    at : (role : Role) → Real (s .network .senders) role → j ≡ partOf role → OnMoves LandedBy (outcomeOf s role)
-    at link r e = link-lands s (subst (λ (k : ℕ). Between k s) e b) early
+    at : (role : Role) → Real (s .network) role → j ≡ partOf (s .network .senders) role → OnMoves LandedBy (outcomeOf s role)
+    at (link l) r e = link-lands s l r (subst (λ (k : ℕ). Between k s) e b) early
+    at bouncer r e = unfold outcomeOf actsOf in tt
     at (sender i) r e = sender-lands s i r (subst (λ (k : ℕ). Between k s) e b) early
     at (toggler i) r e = toggler-lands s i r (subst (λ (k : ℕ). Between k s) e b) early
     at nobody r e = absurd r

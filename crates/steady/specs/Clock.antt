@@ -10,7 +10,7 @@ use Rattle.quantities.specs.declared.time.OptionTime.the-variants.{Some}
 use Rattle.quantities.specs.NewTime.{Double}
 use Rattle.remy.specs.declared.simulation.Simulation.{Simulation}
 use Rattle.remy.specs.declared.simulation.TickRecord.{TickRecord}
-use Rattle.remy.specs.State.{senderAt, togglerAt}
+use Rattle.remy.specs.State.{lineAt, senderAt, togglerAt}
 use Rattle.remy.specs.Tick.{tickOf}
 use Rattle.remy.specs.NewTimes.{newTimes, NewTimesFine}
 use Rattle.remy.specs.HeldTimes.{Kinds, timerOf, dueTimes, Holds, Has}
@@ -19,7 +19,7 @@ use Rattle.remy.specs.History.{Call, after, history}
 -- ---- what the types of code say of a state
 
 abbrev pub doubles : Kinds
-doubles = record { free = Double; due = Double; timer = λ i. Double; toggle = λ i. Double; queued = Double }
+doubles = record { free = λ l. Double; due = λ l. Double; timer = λ i. Double; toggle = λ i. Double; queued = Double }
 
 -- its arrays have all their places, and the times that can become the clock are doubles
 abbrev pub Typed : Simulation → Type 0
@@ -31,8 +31,8 @@ Typed s = Has doubles s
 abbrev pub oldOrNew : Simulation → List Time → Kinds
 oldOrNew s ts =
     record {
-      free = λ t. (t ≡ s .line .«earliest_transmit») ⊎ List·Memᴰ t ts;
-      due = λ t. List·Memᴰ t (dueTimes s) ⊎ List·Memᴰ t ts;
+      free = λ l t. (t ≡ lineAt s l .«earliest_transmit») ⊎ List·Memᴰ t ts;
+      due = λ l t. List·Memᴰ t (dueTimes s l) ⊎ List·Memᴰ t ts;
       timer = λ i t. (timerOf (senderAt s i .state) ≡ Some t) ⊎ List·Memᴰ t ts;
       toggle = λ i t. (togglerAt s i .«next_toggle» ≡ t) ⊎ List·Memᴰ t ts;
       queued = λ t. Unit {0};
@@ -41,7 +41,7 @@ oldOrNew s ts =
 pub record Onward (s : Simulation) : Type 0 where
   -- each new time that a tick works out is finite and not below the clock
   pub fine : NewTimesFine s
-  -- the earliest start, the due times, the timers and the toggles after it are those before it, or new ones
+  -- the earliest start and the due times of each line, the timers and the toggles after it are those before it, or new ones
   pub held : Holds (oldOrNew s (newTimes s)) (tickOf s .simulation)
   -- the clock after a tick that moved is not below the clock before it
   pub clock : tickOf s .moved ≡ true → T (le (s .head .clock .0 .0) (tickOf s .simulation .head .clock .0 .0))

@@ -1,2 +1,3 @@
-// What every tick keeps together with what document 01 calls fit: no packet on the line is due later
-// than the clock and the delay. This crate has no code: specs/ has the definition, proofs/ the laws.
+// What every tick keeps together with what document 01 calls fit: no packet on a line is due later
+// than the clock and that line's delay. This crate has no code: specs/ has the definition, proofs/ the
+// laws.

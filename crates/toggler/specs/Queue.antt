@@ -8,9 +8,9 @@ use Rattle.quantities.specs.declared.time.OptionTime.the-variants.{None, Some}
 use Rattle.toggler.specs.declared.tick_queue.Queued.{Queued}
 use Rattle.toggler.specs.declared.tick_queue.Picked.{Picked}
 
--- how many places the queue has: the link, and sender and toggler of each of 16
+-- how many places the queue has: the link, sender and toggler of each of 16, the bouncer and the return line's link
 abbrev pub queuePlaces : ℕ
-queuePlaces = 33
+queuePlaces = 35
 
 -- an empty place, which also stands for one that is not there
 abbrev pub noQueued : Queued

@@ -27,13 +27,13 @@ pub(crate) fn is_sooner(a: OptionTime, b: OptionTime) -> bool
 }
 
 // The queue's least time, and the lowest part that has it.
-pub fn pick(queue: [Queued; 33]) -> Picked
+pub fn pick(queue: [Queued; 35]) -> Picked
     ensures { λ r. ⌜ r ≡ pickOf queue ⌝ }
 {
     let mut best = OptionTime::None;
     let mut part = 0;
     let mut i = 0;
-    while i < 33 {
+    while i < 35 {
         let q = queue[i];
         let time = q.time;
         if is_sooner(time, best) {

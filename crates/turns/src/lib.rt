@@ -4,8 +4,9 @@
 // All functions here are helpers for the crate `advance`, and no entry points.
 ghost use mathlib.Core.Path.{_≡_};
 ghost use Prim.Native.Nat.{_+_, _*_, _≤_, _<_, _^_};
-ghost use Rattle.remy.specs.Tick.{emptyRecord, begunName};
-ghost use Rattle.turns.specs.Turns.{leftName, ownerOf, linkActed, onLineAt, heardBy, linkNote, senderActed, arrivedAt, waitingAt, senderNote, switchedTo, togglerNote};
+ghost use Rattle.remy.specs.State.{valuesOf};
+ghost use Rattle.remy.specs.Tick.{emptyRecord, begunName, lostMark};
+ghost use Rattle.turns.specs.Turns.{leftName, ownerOf, linkValues, linkActed, onLineAt, passedOn, heardBy, linkNote, senderActed, arrivalMark, arrivedAt, waitingAt, senderNote, switchedTo, togglerNote};
 use lent::record_lending;
 use link::Begun;
 use link::Left;
@@ -23,14 +24,22 @@ use quantities::TimeSpan;
 use remy::Mark;
 use remy::Name;
 use remy::RemyNetwork;
+use remy::ReturnLine;
 use remy::TickRecord;
 use sender::Heard;
 use sender::LossySender;
 use sender::Policy;
 use sender::SenderState;
 
-// What the link did: the number, the packet that left, the packet that started with its place, and
-// the line.
+// The values of a line that its link's turn reads: its delay, rate and loss.
+pub struct LinkValues {
+    pub delay: f64,
+    pub rate: f64,
+    pub loss: f64,
+}
+
+// What a link did: the number, the packet that left, the packet that started with its place, and the
+// line.
 pub struct LinkActed {
     pub number: u32,
     pub left: Left,
@@ -47,9 +56,9 @@ pub struct Hearing {
     pub meter: AverageFlowMeter,
 }
 
-// What a sender's tick was: its timer, or a packet.
+// What a turn sends to a link: nothing, which is a sender's timer or no packet to pass on, or a packet.
 pub enum Sending {
-    Timer,
+    Nothing,
     Packet(Packet),
 }
 
@@ -59,8 +68,8 @@ pub struct SenderActed {
     pub sender: LossySender,
 }
 
-// What came of it at the link: the number, whether a packet arrived, whether it was admitted and
-// where, the mark, and the line.
+// What came of it at the link: the number, whether a packet arrived, whether it was admitted and at
+// which place, the mark, and the line.
 pub struct Arriving {
     pub number: u32,
     pub arrives: bool,
@@ -81,25 +90,52 @@ pub fn owner(packet: Packet) -> usize
     }
 }
 
-// The link's turn: first the packet that leaves, then the packet that starts.
+// What the turn of the link of line l reads of the line's values.
+pub fn values_at(network: RemyNetwork, l: usize) -> LinkValues
+    ensures { λ r. ⌜ r ≡ linkValues (valuesOf network l) ⌝ }
+{
+    let first = network.line;
+    let back = network.back;
+    if l == 0 {
+        return LinkValues {
+            delay: first.delay,
+            rate: first.rate,
+            loss: first.loss,
+        };
+    }
+    match back {
+        ReturnLine::None => LinkValues {
+            delay: first.delay,
+            rate: first.rate,
+            loss: first.loss,
+        },
+        ReturnLine::Line(second) => LinkValues {
+            delay: second.delay,
+            rate: second.rate,
+            loss: second.loss,
+        },
+    }
+}
+
+// A link's turn by the values of its line: first the packet that leaves, then the packet that starts.
 //
 // A helper for the crate `advance`, and no entry point: the rings have been tested there (9).
 pub fn link_acts(
-    network: RemyNetwork,
+    values: LinkValues,
     line: Line,
     clock: Time,
     front: Transit,
     first: Waiting,
 ) -> LinkActed
     requires { ⌜ (line .waiting .start < 512) × (line .«on_line» .start < 512) × (line .«on_line» .count ≤ 512) ⌝ }
-    ensures { λ r. ⌜ r ≡ linkActed network line clock front first ⌝ }
+    ensures { λ r. ⌜ r ≡ linkActed values line clock front first ⌝ }
 {
-    let d = link::try_deliver(line, clock, front, network.loss);
+    let d = link::try_deliver(line, clock, front, values.loss);
     let left = d.left;
     let on_line = d.line.on_line;
     let at = on_line.end();
-    let delay = TimeSpan(network.delay);
-    let rate = InformationRate(network.rate);
+    let delay = TimeSpan(values.delay);
+    let rate = InformationRate(values.rate);
     let t = link::try_transmit(d.line, clock, first, delay, rate);
     let begun = t.begun;
     let line = t.line;
@@ -122,17 +158,46 @@ pub fn on_line_at(begun: Begun, old: Transit) -> Transit
     }
 }
 
-// The packet that left comes to its sender, if it was not lost; a counted one goes into the meter, with
-// the bits of the sender's packets.
+// What the bouncer passes on to the return line: the packet that left the first line, if there is a
+// return line and it was not lost.
+pub fn pass_on(network: RemyNetwork, l: usize, left: Left) -> Sending
+    ensures { λ r. ⌜ r ≡ passedOn network l left ⌝ }
+{
+    let back = network.back;
+    match left {
+        Left::Nobody => Sending::Nothing,
+        Left::Lost(_) => Sending::Nothing,
+        Left::Out(packet) => {
+            if l != 0 {
+                return Sending::Nothing;
+            }
+            match back {
+                ReturnLine::None => Sending::Nothing,
+                ReturnLine::Line(_) => Sending::Packet(packet),
+            }
+        }
+    }
+}
+
+// The mark of a packet that line l lost.
+fn lost_mark(l: usize) -> Mark
+    ensures { λ r. ⌜ r ≡ lostMark l ⌝ }
+{
+    if l == 0 { Mark::Lost } else { Mark::LostBack }
+}
+
+// The packet that left line l comes to its sender, if it was not lost; a counted one goes into the
+// meter, with the bits of the sender's packets.
 pub fn hear(
     policy: Policy,
     bits: u64,
     clock: Time,
+    l: usize,
     left: Left,
     sender: LossySender,
     meter: AverageFlowMeter,
 ) -> Hearing
-    ensures { λ r. ⌜ r ≡ heardBy policy bits clock left sender meter ⌝ }
+    ensures { λ r. ⌜ r ≡ heardBy policy bits clock l left sender meter ⌝ }
 {
     match left {
         Left::Nobody => Hearing {
@@ -141,12 +206,15 @@ pub fn hear(
             sender,
             meter,
         },
-        Left::Lost(_) => Hearing {
-            heard: false,
-            mark: Mark::Lost,
-            sender,
-            meter,
-        },
+        Left::Lost(_) => {
+            let mark = lost_mark(l);
+            Hearing {
+                heard: false,
+                mark,
+                sender,
+                meter,
+            }
+        }
         Left::Out(p) => {
             let r = sender.receive_packet(policy, p);
             let heard = r.heard;
@@ -181,15 +249,15 @@ pub fn hear(
     }
 }
 
-// The record of the link's turn.
-pub fn link_note(clock: Time, left: Left, begun: Begun, mark: Mark) -> TickRecord
-    ensures { λ r. ⌜ r ≡ linkNote clock left begun mark ⌝ }
+// The record of a link's turn, the link being so many a part.
+pub fn link_note(clock: Time, part: usize, left: Left, begun: Begun, mark: Mark) -> TickRecord
+    ensures { λ r. ⌜ r ≡ linkNote clock part left begun mark ⌝ }
 {
     let packet = left_name(left);
     let started = begun_name(begun);
     TickRecord {
         time: clock,
-        part: 0,
+        part,
         mark,
         packet,
         started,
@@ -226,7 +294,7 @@ pub fn sender_acts(network: RemyNetwork, clock: Time, sender: LossySender, i: us
     let SenderState::Enabled(enabled) = state else {
         return SenderActed {
             number: 9,
-            sending: Sending::Timer,
+            sending: Sending::Nothing,
             sender,
         };
     };
@@ -242,7 +310,7 @@ pub fn sender_acts(network: RemyNetwork, clock: Time, sender: LossySender, i: us
         };
         return SenderActed {
             number: 0,
-            sending: Sending::Timer,
+            sending: Sending::Nothing,
             sender,
         };
     }
@@ -261,13 +329,29 @@ pub fn sender_acts(network: RemyNetwork, clock: Time, sender: LossySender, i: us
     }
 }
 
-// The packet that was sent arrives at the link.
+// The mark of a packet that line l admits or drops full.
+fn arrival_mark(l: usize, admitted: bool) -> Mark
+    ensures { λ r. ⌜ r ≡ arrivalMark l admitted ⌝ }
+{
+    if l == 0 {
+        if admitted {
+            return Mark::Sent;
+        }
+        return Mark::Full;
+    }
+    if admitted {
+        return Mark::Passed;
+    }
+    Mark::FullBack
+}
+
+// The packet that was sent, or passed on, arrives at the link of line l, which has so large a limit.
 //
 // A helper for the crate `advance`, and no entry point: the rings and the waiting bits have been
 // tested there (9).
-pub fn arrive(limit: Limit, bits: u64, line: Line, sending: Sending) -> Arriving
+pub fn arrive(l: usize, limit: Limit, bits: u64, line: Line, sending: Sending) -> Arriving
     requires { ⌜ (line .waiting .start < 512) × (line .waiting .count ≤ 512) × (line .«buffer_contains» .0 + bits < 2 ^ 64) ⌝ }
-    ensures { λ r. ⌜ r ≡ arrivedAt limit bits line sending ⌝ }
+    ensures { λ r. ⌜ r ≡ arrivedAt l limit bits line sending ⌝ }
 {
     let at = line.waiting.end();
     let Sending::Packet(_) = sending else {
@@ -282,24 +366,14 @@ pub fn arrive(limit: Limit, bits: u64, line: Line, sending: Sending) -> Arriving
     };
     let a = link::receive(limit, line, Information(bits));
     let line = a.line;
-    if a.admitted {
-        Arriving {
-            number: a.number,
-            arrives: true,
-            admitted: true,
-            at,
-            mark: Mark::Sent,
-            line,
-        }
-    } else {
-        Arriving {
-            number: a.number,
-            arrives: true,
-            admitted: false,
-            at,
-            mark: Mark::Full,
-            line,
-        }
+    let mark = arrival_mark(l, a.admitted);
+    Arriving {
+        number: a.number,
+        arrives: true,
+        admitted: a.admitted,
+        at,
+        mark,
+        line,
     }
 }
 
@@ -311,7 +385,7 @@ pub fn waiting_at(admitted: bool, bits: u64, sending: Sending, old: Waiting) -> 
         return old;
     }
     match sending {
-        Sending::Timer => old,
+        Sending::Nothing => old,
         Sending::Packet(packet) => {
             let bits = Information(bits);
             Waiting { packet, bits }
@@ -328,7 +402,7 @@ pub fn sender_note(clock: Time, i: usize, sending: Sending, mark: Mark) -> TickR
 {
     let part = 1 + 2 * i;
     match sending {
-        Sending::Timer => TickRecord {
+        Sending::Nothing => TickRecord {
             time: clock,
             part,
             mark,

@@ -43,18 +43,20 @@ returns-2 c =
     (seeded .from-seed .ensures) (child .create-child .ensures) (made .make .ensures) (c .before .if2 .taken)
 
 finish-requires : tie.Need-finish-requires
-finish-requires c κs = search needs
+finish-requires c κs =
+    let passed = c .before .before .before .before .before .before .before .before .before .before .before in
+    few _ (passed .before .before .args .seed) _ (passed .before .network-stop .ensures) (passed .if1 .left)
 
 returns-3 : tie.Need-returns-3
 returns-3 c =
-    let made = c .before .before .before .before .before in
+    let made = c .before .before .before .before .before .before in
     let child = made .before .before .before .before in
     let seeded = child .before in
     let passed = seeded .before in
     let start = passed .before .before in
     c .finish .ensures
     ∙ finished (start .args .network) (start .args .seed) _ (passed .before .network-stop .ensures) (passed .if1 .left) _ _ (made .make .result)
-    (seeded .from-seed .ensures) (child .create-child .ensures) (made .make .ensures) (c .before .before .before .if2 .left)
+    (seeded .from-seed .ensures) (child .create-child .ensures) (made .make .ensures) (c .before .before .before .before .if2 .left)
 
 pub build-spec : {M : Type 1} → statement M
 build-spec =

@@ -11,7 +11,7 @@ use Rattle.parts.proofs.make.Statement.{statement}
 use Rattle.parts.proofs.make.Tie as tie
 
 abbrev Inv-loop : tie.InvT-loop
-Inv-loop n off senders₀ togglers₀ at₀ i₀ senders togglers at i = (i ≤ n) × (populate (n - i) i at off (partsOf senders togglers) ≡ populate n 0 at₀ off noParts)
+Inv-loop n off senders₀ togglers₀ at₀ i₀ senders togglers at i = (i ≤ n) × (populate (n - i) i off (partsOf at senders togglers) ≡ populate n 0 off (noParts at₀))
 
 abbrev μ-loop : tie.MeasureT-loop
 μ-loop n off senders₀ togglers₀ at₀ i₀ senders togglers at i = n - i
@@ -20,7 +20,7 @@ no-parts-requires : tie.Need-no-parts-requires Inv-loop μ-loop
 no-parts-requires c κs = search needs
 
 loop-holds : tie.Need-loop-holds Inv-loop μ-loop
-loop-holds c = (omega arith, begins (c .before .before .no-parts .result) (c .before .before .no-parts .ensures) _ _ _)
+loop-holds c = (omega arith, begins (c .before .before .no-parts .result) _ (c .before .before .no-parts .ensures) _ _)
 
 create-child-requires : tie.Need-create-child-requires Inv-loop μ-loop
 create-child-requires c κs = search needs
@@ -48,13 +48,13 @@ array-set-from-togglers c = search needs
 
 returns : tie.Need-returns Inv-loop μ-loop
 returns c =
-    let fourth = c .before .before .before in
+    let fourth = c .before .before .before .before in
     let third = fourth .before in
     let second = third .before in
     let first = second .before in
     let turn = first .before in
     let L = turn .before .loop in
-    stops _ (L .i) (L .at) _ (L .senders) (L .togglers) _ _ (third .create .result) _ (turn .loop-test .taken) (first .create-child .ensures) (second .create-child2 .ensures)
+    stops _ (L .i) _ (L .at) (L .senders) (L .togglers) _ _ (third .create .result) _ (turn .loop-test .taken) (first .create-child .ensures) (second .create-child2 .ensures)
     (third .create .ensures) (fourth .new-sender .ensures) (c .if1 .taken)
     ∙ L .inv .1
 
@@ -73,13 +73,13 @@ loop-again c =
     let turn = first .before in
     let L = turn .before .loop in (
       omega (arith, L .inv .0, turn .loop-test .taken),
-      goes-on _ (L .i) (L .at) _ (L .senders) (L .togglers) _ _ (third .create .result) _ (turn .loop-test .taken) (first .create-child .ensures) (second .create-child2 .ensures)
-          (third .create .ensures) (fourth .new-sender .ensures) (c .before .if1 .left)
+      goes-on _ (L .i) _ (L .at) (L .senders) (L .togglers) _ _ (third .create .result) _ (turn .loop-test .taken) (first .create-child .ensures) (second .create-child2 .ensures)
+          (third .create .ensures) (fourth .new-sender .ensures) (c .if1 .left)
           ∙ L .inv .1,
     )
 
 returns-2 : tie.Need-returns-2 Inv-loop μ-loop
-returns-2 c = let L = c .before .loop in all-made _ (L .i) (L .at) _ (L .senders) (L .togglers) (c .loop-test .left) ∙ L .inv .1
+returns-2 c = let L = c .before .loop in all-made _ (L .i) _ (L .at) (L .senders) (L .togglers) (c .loop-test .left) ∙ L .inv .1
 
 pub make-spec : {M : Type 1} → statement M
 make-spec =

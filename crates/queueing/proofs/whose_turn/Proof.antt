@@ -33,6 +33,9 @@ returns-3 c =
       c .if2 .taken,
     )
 
+has-back-requires : tie.Need-has-back-requires
+has-back-requires c κs = search needs
+
 role-requires : tie.Need-role-requires
 role-requires c κs = search needs
 
@@ -41,12 +44,13 @@ unfolding nowOf ofBits
 returns-4 c =
     rw (
       c .role .ensures,
-      not-false (c .before .before .before .before .before .before .before .args .fit) (c .before .before .before .before .before .before .if1 .left),
-      c .before .before .before .before .next .given .1,
-      c .before .if2 .left,
+      c .before .has-back .ensures,
+      not-false (c .before .before .before .before .before .before .before .before .args .fit) (c .before .before .before .before .before .before .before .if1 .left),
+      c .before .before .before .before .before .next .given .1,
+      c .before .before .if2 .left,
     )
 
 pub whose-turn-spec : {M : Type 1} → statement M
 whose-turn-spec =
     tie.close
-    (tie.spec returns enum-known-next enum-told returns-2 returns-3 role-requires returns-4)
+    (tie.spec returns enum-known-next enum-told returns-2 returns-3 has-back-requires role-requires returns-4)

@@ -24,27 +24,20 @@ returns c =
 receive-requires : tie.Need-receive-requires
 receive-requires c κs = search needs
 
+arrival-mark-requires : tie.Need-arrival-mark-requires
+arrival-mark-requires c κs = search needs
+
 returns-2 : tie.Need-returns-2
 unfolding arrivedAt
 returns-2 c =
     rw (
+      c .arrival-mark .ensures,
       c .before .before .before .before .before .end .ensures,
       c .before .before .before .enum-told .given .1,
       ← c .before .before .receive .ensures,
-      c .if1 .taken,
-    )
-
-returns-3 : tie.Need-returns-3
-unfolding arrivedAt
-returns-3 c =
-    rw (
-      c .before .before .before .before .before .end .ensures,
-      c .before .before .before .enum-told .given .1,
-      ← c .before .before .receive .ensures,
-      c .if1 .left,
     )
 
 pub arrive-spec : {M : Type 1} → statement M
 arrive-spec =
     tie.close
-    (tie.spec end-requires enum-told enum-told-2 returns receive-requires returns-2 returns-3)
+    (tie.spec end-requires enum-told enum-told-2 returns receive-requires arrival-mark-requires returns-2)

@@ -10,6 +10,9 @@ enum-told c = search needs
 enum-told-2 : tie.Need-enum-told-2
 enum-told-2 c = search needs
 
+lost-mark-requires : tie.Need-lost-mark-requires
+lost-mark-requires c κs = search needs
+
 enum-known-left : tie.Need-enum-known-left
 enum-known-left c = search needs
 
@@ -37,7 +40,11 @@ returns c = rw (c .enum-told .given .1)
 
 returns-2 : tie.Need-returns-2
 unfolding heardBy
-returns-2 c = rw (c .enum-told2 .given .1)
+returns-2 c =
+    rw (
+      c .lost-mark .ensures,
+      c .before .enum-told2 .given .1,
+    )
 
 returns-3 : tie.Need-returns-3
 unfolding heardBy
@@ -74,6 +81,7 @@ hear-spec =
     (tie.spec
     enum-told
     enum-told-2
+    lost-mark-requires
     enum-known-left
     receive-packet-requires
     enum-told-3

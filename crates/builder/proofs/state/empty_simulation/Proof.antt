@@ -12,6 +12,9 @@ empty-network-requires c κs = search needs
 empty-words-requires : tie.Need-empty-words-requires
 empty-words-requires c κs = search needs
 
+blank-words-requires : tie.Need-blank-words-requires
+blank-words-requires c κs = search needs
+
 no-parts-requires : tie.Need-no-parts-requires
 no-parts-requires c κs = search needs
 
@@ -23,13 +26,20 @@ unfolding ofBits emptySimulation
 returns c =
     rw (
       c .fresh .ensures,
-      none-senders (c .before .before .before .no-parts .result) (c .before .before .before .no-parts .ensures),
-      none-togglers (c .before .before .before .no-parts .result) (c .before .before .before .no-parts .ensures),
-      c .before .before .before .before .empty-words .ensures,
-      c .before .before .before .before .before .empty-network .ensures,
+      none-senders (c .before .before .before .no-parts .result) _ (c .before .before .before .no-parts .ensures),
+      none-togglers (c .before .before .before .no-parts .result) _ (c .before .before .before .no-parts .ensures),
+      c .before .before .before .before .blank-words .ensures,
+      c .before .before .before .before .before .empty-words .ensures,
+      c .before .before .before .before .before .before .empty-network .ensures,
     )
 
 pub empty-simulation-spec : {M : Type 1} → statement M
 empty-simulation-spec =
     tie.close
-    (tie.spec empty-network-requires empty-words-requires no-parts-requires fresh-requires returns)
+    (tie.spec
+    empty-network-requires
+    empty-words-requires
+    blank-words-requires
+    no-parts-requires
+    fresh-requires
+    returns)

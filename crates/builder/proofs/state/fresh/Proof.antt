@@ -7,6 +7,9 @@ use Rattle.builder.proofs.state.fresh.Tie as tie
 new-line-requires : tie.Need-new-line-requires
 new-line-requires c κs = search needs
 
+new-line-requires-2 : tie.Need-new-line-requires-2
+new-line-requires-2 c κs = search needs
+
 blank-waiting-requires : tie.Need-blank-waiting-requires
 blank-waiting-requires c κs = search needs
 
@@ -23,7 +26,8 @@ returns c =
       c .new-disabled .ensures,
       c .before .blank-transit .ensures,
       c .before .before .blank-waiting .ensures,
-      c .before .before .before .new-line .ensures,
+      c .before .before .before .new-line2 .ensures,
+      c .before .before .before .before .new-line .ensures,
     )
 
 pub fresh-spec : {M : Type 1} → statement M
@@ -31,6 +35,7 @@ fresh-spec =
     tie.close
     (tie.spec
     new-line-requires
+    new-line-requires-2
     blank-waiting-requires
     blank-transit-requires
     new-disabled-requires

@@ -14,23 +14,29 @@ use Rattle.clauses.proofs.packets.waiting_fit.Statement.{statement}
 use Rattle.clauses.proofs.packets.waiting_fit.Tie as tie
 
 abbrev Inv-loop : tie.InvT-loop
-Inv-loop n clock contains senders sizes waiting start count sum₀ i₀ sum i =
+Inv-loop n clock l contains senders sizes waiting base start count sum₀ i₀ sum i =
     (i ≤ count)
-    × (every (waitsTest senders sizes n clock) (rest noWaiting waiting start count i) ≡ every (waitsTest senders sizes n clock) (itemsFrom noWaiting waiting start count))
-    × Summed noWaiting waiting start count sum i
+    × (every (waitsTest senders sizes n clock) (rest noWaiting waiting l start count i) ≡ every (waitsTest senders sizes n clock) (itemsFrom noWaiting waiting l start count))
+    × Summed noWaiting waiting l start count sum i
 
 abbrev μ-loop : tie.MeasureT-loop
-μ-loop n clock contains senders sizes waiting start count sum₀ i₀ sum i = count - i
+μ-loop n clock l contains senders sizes waiting base start count sum₀ i₀ sum i = count - i
+
+mul-base : tie.Need-mul-base Inv-loop μ-loop
+mul-base c = search needs
 
 loop-holds : tie.Need-loop-holds Inv-loop μ-loop
 loop-holds c = (
   omega arith,
-  ap (every (waitsTest (c .args .t1) (c .args .t2) (c .args .n) (c .args .clock))) (rest-all noWaiting (c .args .t5) (c .args .ring .start) (c .args .ring .count)),
-  summed-none noWaiting _ _ _,
+  ap (every (waitsTest (c .args .t1) (c .args .t2) (c .args .n) (c .args .clock))) (rest-all noWaiting (c .args .t5) (c .args .l) (c .args .ring .start) (c .args .ring .count)),
+  summed-none noWaiting _ _ _ _,
 )
 
 add-waits : tie.Need-add-waits Inv-loop μ-loop
 add-waits c = search needs
+
+add-waits-2 : tie.Need-add-waits-2 Inv-loop μ-loop
+add-waits-2 c = search needs
 
 mul-waits : tie.Need-mul-waits Inv-loop μ-loop
 mul-waits c = search needs
@@ -42,7 +48,7 @@ returns : tie.Need-returns Inv-loop μ-loop
 unfolding waitingTest waitsTest
 returns c =
     let L = c .before .before .before .before .loop in
-    rw (← every-stops _ noWaiting _ _ _ (L .i) (c .before .before .before .loop-test .taken) (first-fails _ _ (packet-unknown _ _ _ _ (c .if1 .taken))) ∙ L .inv .1)
+    rw (← every-stops _ noWaiting _ _ _ _ (L .i) (c .before .before .before .loop-test .taken) (first-fails _ _ (packet-unknown _ _ _ _ (c .if1 .taken))) ∙ L .inv .1)
 
 cast-sender : tie.Need-cast-sender Inv-loop μ-loop
 cast-sender c = search needs
@@ -62,7 +68,7 @@ returns-2 c =
     let L = c .before .before .before .before .before .before .before .loop in
     let S = c .before .sent-fit in
     rw
-    (← every-stops _ noWaiting _ _ _ (L .i) (c .before .before .before .before .before .before .loop-test .taken)
+    (← every-stops _ noWaiting _ _ _ _ (L .i) (c .before .before .before .before .before .before .loop-test .taken)
     (first-fails _ _ (packet-is _ _ _ _ (c .before .before .before .if1 .left) _ (S .ensures) ∙ not-true (S .result) (c .if2 .taken)))
     ∙ L .inv .1)
 
@@ -81,7 +87,7 @@ returns-3 c =
     let L = c .before .before .before .before .before .before .before .before .before .loop in
     let S = c .before .before .before .sent-fit in
     rw
-    (← every-stops _ noWaiting _ _ _ (L .i) (c .before .before .before .before .before .before .before .before .loop-test .taken)
+    (← every-stops _ noWaiting _ _ _ _ (L .i) (c .before .before .before .before .before .before .before .before .loop-test .taken)
     (first-passes _ _ (packet-is _ _ _ _ (c .before .before .before .before .before .if1 .left) _ (S .ensures) ∙ not-false (S .result) (c .before .before .if2 .left)) _
     (sym (ne-eqb _ _ (c .if3 .taken))))
     ∙ L .inv .1)
@@ -108,18 +114,18 @@ loop-again c =
     let more = c .before .before .before .before .before .before .before .before .loop-test .taken in
     let small = c .before .before .before .before .before .before .before .before .before .before .pre .1 .each _ (c .before .before .before .before .before .if1 .left) in (
       omega (arith, more),
-      every-goes _ noWaiting _ _ _ (L .i) more
+      every-goes _ noWaiting _ _ _ _ (L .i) more
           (first-passes _ _ (packet-is _ _ _ _ (c .before .before .before .before .before .if1 .left) _ (S .ensures) ∙ not-false (S .result) (c .before .before .if2 .left)) _
           (sym (eq-eqb _ _ (c .if3 .left))))
           ∙ L .inv .1,
-      summed-one noWaiting _ _ _ (L .sum) (L .i) (L .inv .2) more _ (c .if3 .left) small,
+      summed-one noWaiting _ _ _ _ (L .sum) (L .i) (L .inv .2) more _ (c .if3 .left) small,
     )
 
 returns-4 : tie.Need-returns-4 Inv-loop μ-loop
 unfolding waitingTest
 returns-4 c =
     let L = c .before .before .loop in
-    rw (← every-done _ noWaiting _ _ _ (L .i) (c .before .loop-test .left) ∙ L .inv .1, summed-all noWaiting _ _ _ (L .sum) (L .i) (L .inv .2) (c .before .loop-test .left))
+    rw (← every-done _ noWaiting _ _ _ _ (L .i) (c .before .loop-test .left) ∙ L .inv .1, summed-all noWaiting _ _ _ _ (L .sum) (L .i) (L .inv .2) (c .before .loop-test .left))
 
 pub waiting-fit-spec : {M : Type 1} → statement M
 waiting-fit-spec =
@@ -127,8 +133,10 @@ waiting-fit-spec =
     (tie.spec
     Inv-loop
     μ-loop
+    mul-base
     loop-holds
     add-waits
+    add-waits-2
     mul-waits
     array-copy-out-waits
     returns

@@ -11,10 +11,10 @@ use Rattle.clauses.proofs.queue.is_empty.Tie as tie
 
 abbrev Inv-loop : tie.InvT-loop
 Inv-loop queue k₀ k =
-    (k ≤ 33) × (emptyTest k queue ≡ true)
+    (k ≤ 35) × (emptyTest k queue ≡ true)
 
 abbrev μ-loop : tie.MeasureT-loop
-μ-loop queue k₀ k = 33 - k
+μ-loop queue k₀ k = 35 - k
 
 loop-holds : tie.Need-loop-holds Inv-loop μ-loop
 loop-holds c = (omega arith, empty-none _)
@@ -30,7 +30,7 @@ is-on-requires c κs = search needs
 
 returns : tie.Need-returns Inv-loop μ-loop
 returns c =
-    let S = c .before .is-on in empty-stops _ _ (S .result) (S .ensures) 33 (c .before .before .before .loop-test .taken) (c .if1 .taken)
+    let S = c .before .is-on in empty-stops _ _ (S .result) (S .ensures) 35 (c .before .before .before .loop-test .taken) (c .if1 .taken)
 
 add-k : tie.Need-add-k Inv-loop μ-loop
 add-k c = search needs
@@ -45,7 +45,7 @@ loop-again c =
 
 returns-2 : tie.Need-returns-2 Inv-loop μ-loop
 returns-2 c =
-    empty-done _ 33 (c .before .loop .k) (c .before .loop .inv .1) (c .before .loop .inv .0) (c .loop-test .left)
+    empty-done _ 35 (c .before .loop .k) (c .before .loop .inv .1) (c .before .loop .inv .0) (c .loop-test .left)
 
 pub is-empty-spec : {M : Type 1} → statement M
 is-empty-spec =

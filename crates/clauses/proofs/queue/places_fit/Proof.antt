@@ -11,11 +11,11 @@ use Rattle.clauses.proofs.queue.places_fit.Statement.{statement}
 use Rattle.clauses.proofs.queue.places_fit.Tie as tie
 
 abbrev Inv-loop : tie.InvT-loop
-Inv-loop n line clock due senders togglers next queue k₀ k =
-    (k ≤ 33) × (placesTest n line clock due senders togglers k queue next ≡ true)
+Inv-loop n back links clock senders togglers next queue k₀ k =
+    (k ≤ 35) × (placesTest n back links clock senders togglers k queue next ≡ true)
 
 abbrev μ-loop : tie.MeasureT-loop
-μ-loop n line clock due senders togglers next queue k₀ k = 33 - k
+μ-loop n back links clock senders togglers next queue k₀ k = 35 - k
 
 loop-holds : tie.Need-loop-holds Inv-loop μ-loop
 loop-holds c = (omega arith, places-none _ _ _ _ _ _ _ _)
@@ -36,7 +36,7 @@ returns : tie.Need-returns Inv-loop μ-loop
 returns c =
     let O = c .before .before .part-time in
     let S = c .before .place-fit in
-    places-stops _ _ _ _ _ _ _ _ _ (O .result) (O .ensures) (S .result) (S .ensures) 33 (c .before .before .before .before .loop-test .taken) (not-true (S .result) (c .if1 .taken))
+    places-stops _ _ _ _ _ _ _ _ _ (O .result) (O .ensures) (S .result) (S .ensures) 35 (c .before .before .before .before .loop-test .taken) (not-true (S .result) (c .if1 .taken))
 
 add-k : tie.Need-add-k Inv-loop μ-loop
 add-k c = search needs
@@ -54,7 +54,7 @@ loop-again c =
 
 returns-2 : tie.Need-returns-2 Inv-loop μ-loop
 returns-2 c =
-    places-done _ _ _ _ _ _ _ _ 33 (c .before .loop .k) (c .before .loop .inv .1) (c .before .loop .inv .0) (c .loop-test .left)
+    places-done _ _ _ _ _ _ _ _ 35 (c .before .loop .k) (c .before .loop .inv .1) (c .before .loop .inv .0) (c .loop-test .left)
 
 pub places-fit-spec : {M : Type 1} → statement M
 places-fit-spec =

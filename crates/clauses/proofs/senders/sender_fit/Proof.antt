@@ -21,7 +21,7 @@ abbrev to-meter : tie.Start → Bool
 to-meter s = to-toggle s && meterTest (s .args .bits) (s .args .clock) (s .args .meter)
 
 abbrev to-count : tie.Start → Bool
-to-count s = to-meter s && sentCountTest (s .args .sender .«packets_sent») (s .args .meter .records) (s .args .waiting) (s .args .on-line)
+to-count s = to-meter s && sentCountTest (s .args .sender .«packets_sent») (s .args .meter .records) (s .args .under-way)
 
 abbrev to-agree : tie.Start → Bool
 to-agree s = to-count s && agreeTest (s .args .toggler .enabled) (s .args .sender .state) (s .args .meter .«current_start»)

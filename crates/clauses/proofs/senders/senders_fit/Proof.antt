@@ -12,14 +12,14 @@ use Rattle.clauses.proofs.senders.senders_fit.Statement.{statement}
 use Rattle.clauses.proofs.senders.senders_fit.Tie as tie
 
 abbrev Inv-loop : tie.InvT-loop
-Inv-loop policy clock n sizes waiting on-line senders togglers meters i₀ i =
-    (i ≤ n) × (sendersTest policy (λ k. getD sizes k 0) clock (λ k. getD waiting k 0) (λ k. getD on-line k 0) i senders togglers meters ≡ true)
+Inv-loop policy clock n sizes counts senders togglers meters i₀ i =
+    (i ≤ n) × (sendersTest policy (λ k. getD sizes k 0) clock (λ k. getD counts k 0) i senders togglers meters ≡ true)
 
 abbrev μ-loop : tie.MeasureT-loop
-μ-loop policy clock n sizes waiting on-line senders togglers meters i₀ i = n - i
+μ-loop policy clock n sizes counts senders togglers meters i₀ i = n - i
 
 loop-holds : tie.Need-loop-holds Inv-loop μ-loop
-loop-holds c = (omega arith, senders-none _ _ _ _ _ _ _ _)
+loop-holds c = (omega arith, senders-none _ _ _ _ _ _ _)
 
 cast-k : tie.Need-cast-k Inv-loop μ-loop
 cast-k c = search needs
@@ -42,17 +42,11 @@ mul-meter c = search needs
 array-copy-out-meter : tie.Need-array-copy-out-meter Inv-loop μ-loop
 array-copy-out-meter c = search needs
 
-mul-a : tie.Need-mul-a Inv-loop μ-loop
-mul-a c = search needs
+mul-count : tie.Need-mul-count Inv-loop μ-loop
+mul-count c = search needs
 
-array-read-a : tie.Need-array-read-a Inv-loop μ-loop
-array-read-a c = search needs
-
-mul-b : tie.Need-mul-b Inv-loop μ-loop
-mul-b c = search needs
-
-array-read-b : tie.Need-array-read-b Inv-loop μ-loop
-array-read-b c = search needs
+array-read-count : tie.Need-array-read-count Inv-loop μ-loop
+array-read-count c = search needs
 
 mul-bits : tie.Need-mul-bits Inv-loop μ-loop
 mul-bits c = search needs
@@ -64,12 +58,12 @@ sender-fit-requires : tie.Need-sender-fit-requires Inv-loop μ-loop
 sender-fit-requires c κs =
     let pre = c .before .before .before .before .before .pre in
     let more = c .before .before .before .loop-test .taken in
-    (pre .1 .each _ more, pre .2 .each _ (omega (arith, more)), pre .3 .each _ (omega (arith, more)))
+    (pre .1 .each _ more, pre .2 .each _ (omega (arith, more)))
 
 returns : tie.Need-returns Inv-loop μ-loop
 returns c =
     let S = c .before .sender-fit in
-    senders-stops _ _ _ _ _ _ _ _ _ (S .result) (S .ensures) _ (c .before .before .before .before .before .loop-test .taken) (not-true (S .result) (c .if1 .taken))
+    senders-stops _ _ _ _ _ _ _ _ (S .result) (S .ensures) _ (c .before .before .before .before .before .loop-test .taken) (not-true (S .result) (c .if1 .taken))
 
 add-i : tie.Need-add-i Inv-loop μ-loop
 add-i c = search needs
@@ -81,12 +75,12 @@ loop-again : tie.Need-loop-again Inv-loop μ-loop
 loop-again c =
     let S = c .before .sender-fit in (
       omega (arith, c .before .before .before .before .before .loop-test .taken),
-      senders-goes _ _ _ _ _ _ _ _ _ (S .result) (S .ensures) (c .before .before .before .before .before .before .loop .inv .1) (not-false (S .result) (c .if1 .left)),
+      senders-goes _ _ _ _ _ _ _ _ (S .result) (S .ensures) (c .before .before .before .before .before .before .loop .inv .1) (not-false (S .result) (c .if1 .left)),
     )
 
 returns-2 : tie.Need-returns-2 Inv-loop μ-loop
 returns-2 c =
-    let L = c .before .loop in senders-done _ _ _ _ _ _ _ _ _ (L .i) (L .inv .1) (L .inv .0) (c .loop-test .left)
+    let L = c .before .loop in senders-done _ _ _ _ _ _ _ _ (L .i) (L .inv .1) (L .inv .0) (c .loop-test .left)
 
 pub senders-fit-spec : {M : Type 1} → statement M
 senders-fit-spec =
@@ -102,10 +96,8 @@ senders-fit-spec =
     array-copy-out-toggler
     mul-meter
     array-copy-out-meter
-    mul-a
-    array-read-a
-    mul-b
-    array-read-b
+    mul-count
+    array-read-count
     mul-bits
     array-read-bits
     sender-fit-requires

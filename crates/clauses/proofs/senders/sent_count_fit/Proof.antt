@@ -12,12 +12,9 @@ returns c = rw (lt-leb _ _ (c .if1 .taken))
 add-result : tie.Need-add-result
 add-result c = search needs
 
-add-result-2 : tie.Need-add-result-2
-add-result-2 c = search needs
-
 returns-2 : tie.Need-returns-2
 unfolding sentCountTest
 returns-2 c = rw (le-leb _ _ (c .if1 .left))
 
 pub sent-count-fit-spec : {M : Type 1} → statement M
-sent-count-fit-spec = tie.close (tie.spec returns add-result add-result-2 returns-2)
+sent-count-fit-spec = tie.close (tie.spec returns add-result returns-2)

@@ -1,14 +1,14 @@
--- The loop counts up to n, and a slot is below 512. Assumes nothing.
+-- The loop counts up to n, and a slot is below 1,024. Assumes nothing.
 use Prim.Native.Nat.{_-_, _≤_}
 use borrow.Author.Needs.{needs}
 use Rattle.held.proofs.edit.slots.Statement.{statement}
 use Rattle.held.proofs.edit.slots.Tie as tie
 
 abbrev Inv-loop : tie.InvT-loop
-Inv-loop text at on-line out₀ start n x w k₀ out k = k ≤ 512
+Inv-loop text at l on-line out₀ start n x w k₀ out k = k ≤ 512
 
 abbrev μ-loop : tie.MeasureT-loop
-μ-loop text at on-line out₀ start n x w k₀ out k = n - k
+μ-loop text at l on-line out₀ start n x w k₀ out k = n - k
 
 size-requires : tie.Need-size-requires Inv-loop μ-loop
 size-requires c κs = search needs

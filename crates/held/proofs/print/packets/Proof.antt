@@ -1,14 +1,14 @@
--- The loop counts up to the count, and a slot is below 512. Assumes nothing.
+-- The loop counts up to the count, and a slot is below 1,024. Assumes nothing.
 use Prim.Native.Nat.{_-_, _≤_}
 use borrow.Author.Needs.{needs}
 use Rattle.held.proofs.print.packets.Statement.{statement}
 use Rattle.held.proofs.print.packets.Tie as tie
 
 abbrev Inv-loop : tie.InvT-loop
-Inv-loop st ring on-line o₀ k₀ o k = k ≤ ring .count
+Inv-loop st l ring on-line o₀ k₀ o k = k ≤ ring .count
 
 abbrev μ-loop : tie.MeasureT-loop
-μ-loop st ring on-line o₀ k₀ o k = ring .count - k
+μ-loop st l ring on-line o₀ k₀ o k = ring .count - k
 
 slice-aggregate-put : tie.Need-slice-aggregate-put Inv-loop μ-loop
 slice-aggregate-put c = search needs

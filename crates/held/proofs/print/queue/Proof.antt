@@ -1,17 +1,14 @@
--- The loop counts up to 2n, at most 32. Assumes nothing.
-use Prim.Native.Nat.{_+_, _*_, _-_, _≤_}
+-- The loop counts up to the last part, at most 34. Assumes nothing.
+use Prim.Native.Nat.{_+_, _-_, _≤_}
 use borrow.Author.Needs.{needs}
 use Rattle.held.proofs.print.queue.Statement.{statement}
 use Rattle.held.proofs.print.queue.Tie as tie
 
 abbrev Inv-loop : tie.InvT-loop
-Inv-loop n places last o₀ k₀ o k = k ≤ 33
+Inv-loop last places o₀ k₀ o k = k ≤ 35
 
 abbrev μ-loop : tie.MeasureT-loop
-μ-loop n places last o₀ k₀ o k = (2 * n + 1) - k
-
-mul-last : tie.Need-mul-last Inv-loop μ-loop
-mul-last c = search needs
+μ-loop last places o₀ k₀ o k = (last + 1) - k
 
 loop-holds : tie.Need-loop-holds Inv-loop μ-loop
 loop-holds c = search needs
@@ -46,7 +43,6 @@ queue-spec =
     (tie.spec
     Inv-loop
     μ-loop
-    mul-last
     loop-holds
     mul-q
     array-copy-out-q

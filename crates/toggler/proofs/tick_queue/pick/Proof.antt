@@ -10,10 +10,10 @@ use Rattle.toggler.proofs.tick_queue.pick.Statement.{statement}
 use Rattle.toggler.proofs.tick_queue.pick.Tie as tie
 
 abbrev Inv-loop : tie.InvT-loop
-Inv-loop queue best₀ part₀ i₀ best part i = (i ≤ 33) × (pickFrom (drop i queue) i (record { time = best; part = part }) ≡ pickOf queue)
+Inv-loop queue best₀ part₀ i₀ best part i = (i ≤ 35) × (pickFrom (drop i queue) i (record { time = best; part = part }) ≡ pickOf queue)
 
 abbrev μ-loop : tie.MeasureT-loop
-μ-loop queue best₀ part₀ i₀ best part i = 33 - i
+μ-loop queue best₀ part₀ i₀ best part i = 35 - i
 
 loop-holds : tie.Need-loop-holds Inv-loop μ-loop
 unfolding pickOf
@@ -38,7 +38,7 @@ loop-again : tie.Need-loop-again Inv-loop μ-loop
 loop-again c =
     let L = c .before .before .before .before .loop in
     let S = c .before .is-sooner in
-    let full : length (c .before .before .before .before .before .args .t1) ≡ 33 = c .before .before .before .before .before .good .0 .1 .0 .1 in
+    let full : length (c .before .before .before .before .before .args .t1) ≡ 35 = c .before .before .before .before .before .good .0 .1 .0 .1 in
     let below : L .i < length (c .before .before .before .before .before .args .t1) = omega (arith, full, c .before .before .before .loop-test .taken) in
     (omega (arith, c .before .before .before .loop-test .taken), takes _ (L .best) (L .part) (L .i) below (sym (S .ensures) ∙ c .if1 .taken) ∙ L .inv .1)
 
@@ -52,14 +52,14 @@ loop-again-2 : tie.Need-loop-again-2 Inv-loop μ-loop
 loop-again-2 c =
     let L = c .before .before .before .before .loop in
     let S = c .before .is-sooner in
-    let full : length (c .before .before .before .before .before .args .t1) ≡ 33 = c .before .before .before .before .before .good .0 .1 .0 .1 in
+    let full : length (c .before .before .before .before .before .args .t1) ≡ 35 = c .before .before .before .before .before .good .0 .1 .0 .1 in
     let below : L .i < length (c .before .before .before .before .before .args .t1) = omega (arith, full, c .before .before .before .loop-test .taken) in
     (omega (arith, c .before .before .before .loop-test .taken), keeps _ (L .best) (L .part) (L .i) below (sym (S .ensures) ∙ c .if1 .left) ∙ L .inv .1)
 
 returns : tie.Need-returns Inv-loop μ-loop
 returns c =
     let L = c .before .loop in
-    let full : length (c .before .before .args .t1) ≡ 33 = c .before .before .good .0 .1 .0 .1 in
+    let full : length (c .before .before .args .t1) ≡ 35 = c .before .before .good .0 .1 .0 .1 in
     finished _ (L .i) _ (omega (arith, full, c .loop-test .left)) (omega (arith, full, L .inv .0)) ∙ L .inv .1
 
 pub pick-spec : {M : Type 1} → statement M

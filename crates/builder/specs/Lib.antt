@@ -1,2 +1,0 @@
--- The definitions that the contracts of helpers cite.
-pub mod Times
