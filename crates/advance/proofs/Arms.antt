@@ -34,47 +34,26 @@ use Rattle.sender.specs.declared.lossy.Sent.{Sent}
 use Rattle.sender.specs.declared.lossy.Heard.{Heard}
 use Rattle.sender.specs.declared.lossy.Heard.the-variants as Heard
 use Rattle.sender.specs.declared.lossy.Returned.{Returned}
-use Rattle.toggler.specs.declared.tick_queue.Picked.{Picked}
 use Rattle.link.specs.Link.{admits, admitted, receiveOf, tryDeliver, tryTransmit}
 use Rattle.sender.specs.Sender.{returnedOf, timerDue, tickTimer, tickSend}
-use Rattle.toggler.specs.Queue.{noQueued, pickOf}
+use Rattle.toggler.specs.Queue.{noQueued}
 use Rattle.remy.specs.declared.network.RemyNetwork.{RemyNetwork}
 use Rattle.remy.specs.declared.simulation.Simulation.{Simulation}
 use Rattle.remy.specs.declared.simulation.TickRecord.{TickRecord}
 use Rattle.remy.specs.declared.simulation.Mark.the-variants as Mark
 use Rattle.remy.specs.declared.simulation.Name.the-variants as Name
 use Rattle.remy.specs.State.{valuesOf, link, sender, toggler, noWaiting, noTransit, noLine, noSender, noToggler, noMeter, lineAt, senderAt, togglerAt, meterAt, frontOf, firstOf, withLine, senderBits, packetBits, withOnLine, withToggler}
-use Rattle.remy.specs.Queue.{partOf, ownTime, requeue, headOf, picked}
+use Rattle.remy.specs.Queue.{partOf, ownTime, requeue, picked}
 use Rattle.remy.specs.Tick.{Acted, named, recordAt, marked, arriveWith, arrives, timerWith, sendWith, senderWith, senderActs, togglerWith, togglerActs, switches, toBouncer, leftRecord, leftMessages, begunName, putOnLine, heardMark, returnWith, linkWith, linkActs, actsOf, moves, stops, deliver, deliverAll, pickAgain, outcomeWith, outcomeOf}
 use Rattle.remy.proofs.Names.{sent-own}
-use Rattle.queueing.proofs.Picks.{picks}
 use Rattle.turns.specs.declared.Hearing.{Hearing}
 use Rattle.turns.specs.declared.LinkActed.{LinkActed}
 use Rattle.turns.specs.declared.SenderActed.{SenderActed}
 use Rattle.turns.specs.declared.Arriving.{Arriving}
 use Rattle.turns.specs.declared.Sending.{Sending}
 use Rattle.turns.specs.declared.Sending.the-variants as Sending
-use Rattle.queueing.specs.Queueing.{linkSlot, senderSlot, placeAfterPick, togglerSlot}
+use Rattle.queueing.specs.Queueing.{linkSlot, senderSlot, togglerSlot}
 use Rattle.turns.specs.Turns.{linkValues, linkActed, onLineAt, passedOn, heardWith, heardBy, linkNote, togglerNote, switchedTo, senderActed, timerTook, sendTook, senderTook, arrivalMark, arrivedWith, arrivedAt, waitingAt, senderNote}
-
--- ---- the pick, as it is stored
-
-abbrev pub stored-pick : Simulation → Picked → Simulation
-stored-pick s p =
-    record {
-      network = s .network;
-      head = headOf p (p .time);
-      lines = s .lines;
-      waiting = s .waiting;
-      «on_line» = s .«on_line»;
-      senders = s .senders;
-      togglers = s .togglers;
-      meters = s .meters;
-      queue = set (s .queue) (p .part) (placeAfterPick (p .time) (getD (s .queue) (p .part) noQueued));
-    }
-
-pub picked-is : (s : Simulation) (p : Picked) → p ≡ pickOf (s .queue) → stored-pick s p ≡ picked s
-picked-is s p e = picks s p (headOf p (p .time)) (placeAfterPick (p .time) (getD (s .queue) (p .part) noQueued)) e refl refl
 
 -- ---- a packet arrives at the link of line l, sent or passed on
 
@@ -297,9 +276,8 @@ module _ (s : Simulation) (l : ℕ) (full : length (s .lines) ≡ 2) (few : l < 
   -- home to its sender k, or nothing left
   pub home-moves : c .number ≡ 0 → (k : ℕ) → ((p : Packet) → c .left ≡ Left.Out p → p .sender ≡ k) → passedOn (s .network) l (c .left) ≡ Sending.Nothing
       → (h : Hearing) → h ≡ heardBy (s .network .policy) (senderBits (s .network) k .0) (s .head .clock) l (c .left) (senderAt s k) (meterAt s k)
-      → (q : Picked) → q ≡ pickOf (heard-state acts k h .queue)
-      → outcomeOf s (link l) ≡ moves (linkNote (s .head .clock) (partOf (s .network .senders) (link l)) (c .left) (c .begun) (h .mark)) (stored-pick (heard-state acts k h) q)
-  home-moves z k own home h g q f = rw (picked-is (heard-state acts k h) q f, g) (link-acted z ∙ ap pickAgain (home-law s acts l k (c .begun) (c .left) own home))
+      → outcomeOf s (link l) ≡ moves (linkNote (s .head .clock) (partOf (s .network .senders) (link l)) (c .left) (c .begun) (h .mark)) (picked (heard-state acts k h))
+  home-moves z k own home h g = rw g (link-acted z ∙ ap pickAgain (home-law s acts l k (c .begun) (c .left) own home))
 
   -- on to the return line, by the bouncer
   module _ (p : Packet) (z : c .number ≡ 0) (out : c .left ≡ Left.Out p) (to : toBouncer (s .network) l ≡ true) (other : 1 ≡ l → ⊥) (bits : ℕ) (own : packetBits (s .network) p .0 ≡ bits)
@@ -320,10 +298,10 @@ module _ (s : Simulation) (l : ℕ) (full : length (s .lines) ≡ 2) (few : l < 
         ∙ ap pickAgain (arrives-stops (bounced-state acts) 1 both (omega arith) (leftRecord s l (Left.Out p) (begunName (c .begun))) p bits own (sym (ap (λ (x : Arriving). eqb (x .number) 0) arriving) ∙ y))
         ∙ ap (λ (x : Arriving). stops (x .number)) (sym arriving)
 
-    pub pass-moves : b .number ≡ 0 → (q : Picked) → q ≡ pickOf (arrived-state (bounced-state acts) 1 bits (Sending.Packet p) b .queue)
-        → outcomeOf s (link l) ≡ moves (linkNote (s .head .clock) (partOf (s .network .senders) (link l)) (c .left) (c .begun) (b .mark)) (stored-pick (arrived-state (bounced-state acts) 1 bits (Sending.Packet p) b) q)
-    pass-moves y q f =
-        rw (picked-is (arrived-state (bounced-state acts) 1 bits (Sending.Packet p) b) q f, out, arriving)
+    pub pass-moves : b .number ≡ 0
+        → outcomeOf s (link l) ≡ moves (linkNote (s .head .clock) (partOf (s .network .senders) (link l)) (c .left) (c .begun) (b .mark)) (picked (arrived-state (bounced-state acts) 1 bits (Sending.Packet p) b))
+    pass-moves y =
+        rw (out, arriving)
         (bounced
         ∙ ap pickAgain (arrives-law (bounced-state acts) 1 both (omega arith) (leftRecord s l (Left.Out p) (begunName (c .begun))) p bits own (sym (ap (λ (x : Arriving). x .number) arriving) ∙ y)))
 
@@ -363,11 +341,10 @@ toggler-with s i t z = rw (eq-eqb _ _ z) (by (t .toggler .enabled) refl)
 pub toggler-moves : (s : Simulation) (i : ℕ) (t : Toggled) → t ≡ toggleOf (togglerAt s i) (s .head .clock) (s .network .on) (s .network .off) → t .number ≡ 0
     → (x : LossySender) → x ≡ switchedTo (s .network .policy) (t .toggler .enabled) (senderAt s i) (s .head .clock)
     → (m : Metered) → m ≡ switchedOf (meterAt s i) (t .toggler .enabled) (s .head .clock)
-    → (q : Picked) → q ≡ pickOf (toggler-state s i (t .toggler) x (m .meter) .queue)
-    → outcomeOf s (toggler i) ≡ moves (togglerNote (s .head .clock) i (t .toggler .enabled)) (stored-pick (toggler-state s i (t .toggler) x (m .meter)) q)
+    → outcomeOf s (toggler i) ≡ moves (togglerNote (s .head .clock) i (t .toggler .enabled)) (picked (toggler-state s i (t .toggler) x (m .meter)))
 unfolding outcomeOf actsOf togglerActs
-toggler-moves s i t e z x f m g q h =
-    rw (picked-is (toggler-state s i (t .toggler) x (m .meter)) q h, f, g) (ap (λ (y : Toggled). outcomeWith (toggler i) (togglerWith s i y)) (sym e) ∙ toggler-with s i t z)
+toggler-moves s i t e z x f m g =
+    rw (f, g) (ap (λ (y : Toggled). outcomeWith (toggler i) (togglerWith s i y)) (sym e) ∙ toggler-with s i t z)
 
 pub toggler-stops : (s : Simulation) (i : ℕ) (t : Toggled) → t ≡ toggleOf (togglerAt s i) (s .head .clock) (s .network .on) (s .network .off) → eqb (t .number) 0 ≡ false → outcomeOf s (toggler i) ≡ stops (t .number)
 unfolding outcomeOf actsOf togglerActs
@@ -449,11 +426,10 @@ module _ (s : Simulation) (full : length (s .lines) ≡ 2) (i : ℕ) where
 
   pub sender-moves : (a : SenderActed) → a ≡ senderActed (s .network) (s .head .clock) (senderAt s i) i → a .number ≡ 0
       → (b : Arriving) → b ≡ arrivedAt 0 (s .network .line .limit) (senderBits (s .network) i .0) (lineAt s 0) (a .sending) → b .number ≡ 0
-      → (q : Picked) → q ≡ pickOf (sender-state s i a b .queue)
-      → outcomeOf s (sender i) ≡ moves (senderNote (s .head .clock) i (a .sending) (b .mark)) (stored-pick (sender-state s i a b) q)
+      → outcomeOf s (sender i) ≡ moves (senderNote (s .head .clock) i (a .sending) (b .mark)) (picked (sender-state s i a b))
   unfolding outcomeOf actsOf senderActs senderActed
-  sender-moves a e z b f y q h =
-      rw (picked-is (sender-state s i a b) q h, f, e)
+  sender-moves a e z b f y =
+      rw (f, e)
       (took (senderAt s i .state) (sym (ap (λ (x : SenderActed). x .number) e) ∙ z) (sym (ap (λ (x : Arriving). x .number) (f ∙ ap arriving-of e)) ∙ y))
 
   -- stopped before it sends

@@ -6,7 +6,7 @@ use Prim.Native.Nat.{ℕ, zero, suc, _+_, _*_, _≤_, _<_, _^_}
 use native.Mathlib.Nat.{zero-add}
 use native.Mathlib.Omega.{arith}
 use lib.ListN.{length, getD, set}
-use lib.Seq.{getD-set-same}
+use lib.Seq.{getD-set-same, set-getD}
 use lib.Dec.{ltb, leb, eqb}
 use borrow.Author.Tests.{ltb-true}
 use Rattle.quantities.specs.declared.time.Time.{Time}
@@ -20,27 +20,28 @@ use Rattle.link.specs.declared.packet.Waiting.{Waiting}
 use Rattle.link.specs.declared.packet.Transit.{Transit}
 use Rattle.link.specs.declared.link.Limit.{Limit}
 use Rattle.link.specs.declared.link.Line.{Line}
+use Rattle.link.specs.declared.link.Left.{Left}
 use Rattle.link.specs.declared.link.Left.the-variants as Left
 use Rattle.link.specs.declared.link.Arrival.{Arrival}
 use Rattle.link.specs.declared.link.Transmitted.{Transmitted}
 use Rattle.sender.specs.declared.lossy.LossySender.{LossySender}
 use Rattle.toggler.specs.declared.toggler.Toggled.{Toggled}
 use Rattle.toggler.specs.declared.tick_queue.Queued.{Queued}
-use Rattle.toggler.specs.declared.tick_queue.Picked.{Picked}
 use Rattle.link.specs.Ring.{places, slotOf}
 use Rattle.link.specs.Link.{admits, receiveOf, isFree, tryDeliver, tryTransmit}
 use Rattle.toggler.specs.Toggler.{toggleOf}
-use Rattle.toggler.specs.Queue.{noQueued, pickOf}
+use Rattle.toggler.specs.Queue.{noQueued}
+use Rattle.toggler.proofs.Pick.{NoneFrom, none-set}
 use Rattle.remy.specs.declared.network.RemyNetwork.{RemyNetwork}
-use Rattle.remy.specs.declared.simulation.Head.{Head}
 use Rattle.remy.specs.declared.simulation.Simulation.{Simulation}
 use Rattle.remy.specs.declared.simulation.TickRecord.{TickRecord}
-use Rattle.remy.specs.State.{hasBack, lineCount, valuesOf, Role, link, sender, toggler, noWaiting, noTransit, noSender, noToggler, lineAt, senderAt, togglerAt, meterAt, frontOf, firstOf, senderBits, packetBits}
-use Rattle.remy.specs.Queue.{partOf, headOf}
+use Rattle.remy.specs.State.{hasBack, lineCount, valuesOf, Role, link, bouncer, sender, toggler, noWaiting, noTransit, noSender, noToggler, lineAt, senderAt, togglerAt, meterAt, frontOf, firstOf, senderBits, packetBits}
+use Rattle.remy.specs.Queue.{partOf, picked}
 use Rattle.remy.specs.Fit.{fit}
 use Rattle.remy.specs.HeldTimes.{Full}
 use Rattle.remy.specs.Tick.{toBouncer, moves, stops, outcomeOf, unmoved, ticked, tickOf}
 use Rattle.remy.proofs.Facts.{first-there, second-there, lines-few}
+use Rattle.remy.proofs.Roles.{Real, part-below}
 use Rattle.remy.proofs.Steps.{cond-elim}
 use Rattle.queueing.specs.declared.Now.{Now}
 use Rattle.queueing.specs.declared.Now.the-variants as Now
@@ -51,11 +52,12 @@ use Rattle.turns.specs.declared.Sending.{Sending}
 use Rattle.turns.specs.declared.Sending.the-variants as Sending
 use Rattle.turns.specs.declared.SenderActed.{SenderActed}
 use Rattle.turns.specs.declared.Arriving.{Arriving}
-use Rattle.queueing.specs.Queueing.{nowOf, linkSlot, senderSlot, placeAfterPick, togglerSlot}
+use Rattle.queueing.proofs.Parts.{fit-none}
+use Rattle.queueing.specs.Queueing.{nowOf, linkSlot, senderSlot, togglerSlot}
 use Rattle.turns.specs.Turns.{ownerOf, linkValues, linkActed, onLineAt, passedOn, heardBy, linkNote, togglerNote, switchedTo, senderActed, arrivedAt, waitingAt, senderNote}
 use Rattle.turns.proofs.InRange.{on-line-range}
-use Rattle.advance.proofs.Arms.{acted-state, heard-state, bounced-state, arrived-state, sender-state, toggler-state, goes-on, home-moves, pass-moves, pass-stops, sender-moves, toggler-moves}
-use Rattle.advance.proofs.Ticks.{TickAs, now-tick, senders-few, room, own-packet}
+use Rattle.advance.proofs.Arms.{goes-on, home-moves, pass-moves, pass-stops, sender-moves, toggler-moves}
+use Rattle.advance.proofs.Ticks.{partsOf, TickAs, now-tick, senders-few, room, own-packet}
 
 -- ---- whose turn it is
 
@@ -148,6 +150,12 @@ module _ (l : ℕ) (limit : Limit) (bits : ℕ) (x : Line) (sending : Sending) (
           let P : Arrival → Type 0 = λ a. a .line .«on_line» .start < places in
           cond-elim P (admits limit (x .«buffer_contains») (amountOf bits)) _ _ (λ t. cond-elim P (leb places (x .waiting .count)) _ _ (λ u. h) (λ u. h)) (λ t. h)
 
+-- ---- the places of the queue
+
+-- what is stored at a part's place leaves those past the parts without a time
+none-at : (n : RemyNetwork) (queue : List Queued) (role : Role) → Real n role → (x : Queued) → NoneFrom (partsOf n) queue → NoneFrom (partsOf n) (set queue (partOf (n .senders) role) x)
+none-at n queue role r x = none-set queue (partsOf n) (partOf (n .senders) role) x (part-below n role r)
+
 -- ---- a packet that is passed on
 
 -- only the first line's are, where there is a return line
@@ -194,28 +202,33 @@ module _ (s : Simulation) (full : Full s) (l : ℕ) (t : LinkTurn s l) (k : ℕ)
         → (q0 : Queued) → q0 ≡ linkSlot true (c .line) (s .head .clock) (getD (set (s .«on_line») (slotOf l (c .at)) new) (slotOf l (c .line .«on_line» .start)) noTransit) (getD (s .queue) place noQueued)
         → let before = set (set (s .queue) place q0) (1 + 2 * s .network .senders) noQueued in
         (q1 : Queued) → q1 ≡ linkSlot true (b .line) (s .head .clock) (getD (set (s .«on_line») (slotOf l (c .at)) new) (slotOf 1 (b .line .«on_line» .start)) noTransit) (getD before (2 + 2 * s .network .senders) noQueued)
-        → (best : Picked) → best ≡ pickOf (set before (2 + 2 * s .network .senders) q1)
-        → (x : Queued) → x ≡ placeAfterPick (best .time) (getD (set before (2 + 2 * s .network .senders) q1) (best .part) noQueued)
-        → (head : Head) → head ≡ headOf best (best .time)
         → (note : TickRecord) → note ≡ linkNote (s .head .clock) place (c .left) (c .begun) (b .mark)
         → tickOf s ≡ ticked s (moves note
-        (record {
+        (picked (record {
           network = s .network;
-          head = head;
+          head = s .head;
           lines = set (set (s .lines) l (c .line)) 1 (b .line);
           waiting = set (s .waiting) (slotOf 1 (b .at)) waits;
           «on_line» = set (s .«on_line») (slotOf l (c .at)) new;
           senders = s .senders;
           togglers = s .togglers;
           meters = s .meters;
-          queue = set (set before (2 + 2 * s .network .senders) q1) (best .part) x;
-        }))
-    pass-stored y new en place ep waits es q0 e0 q1 e1 best eb x ex head ed note eo =
+          queue = set before (2 + 2 * s .network .senders) q1;
+        })))
+    pass-stored y new en place ep waits es q0 e0 q1 e1 note eo =
         let bits = senderBits (s .network) k .0 in
-        let after = arrived-state (bounced-state (acted-state s l (slotOf l (c .at)) (c .line) (c .begun))) 1 bits (Sending.Packet p) b in
-        let same : set (set (set (s .queue) place q0) (1 + 2 * s .network .senders) noQueued) (2 + 2 * s .network .senders) q1 ≡ after .queue = rw (e1, e0, en, ep, arrives-true) in
-        rw (eo, ed, ex, e1, e0, es, wp, en, ep)
-        (t .tick ∙ ap (ticked s) (rw arrives-true at (pass-moves s l (full .lines) (t .below) c ec p z passes-out passes-to passes-other bits passes-own b arrives-so y best (eb ∙ ap pickOf same))))
+        rw (eo, e1, e0, es, wp, en, ep)
+        (t .tick ∙ ap (ticked s) (rw arrives-true at (pass-moves s l (full .lines) (t .below) c ec p z passes-out passes-to passes-other bits passes-own b arrives-so y)))
+
+    -- no place but those of the parts holds a time
+    pub pass-none : (place : ℕ) → place ≡ partOf (s .network .senders) (link l) → (q0 q1 : Queued)
+        → NoneFrom (partsOf (s .network)) (set (set (set (s .queue) place q0) (1 + 2 * s .network .senders) noQueued) (2 + 2 * s .network .senders) q1)
+    pass-none place ep q0 q1 =
+        let n = s .network in
+        let first = set (s .queue) (partOf (n .senders) (link l)) q0 in
+        rw ep
+        (none-at n (set first (partOf (n .senders) bouncer) noQueued) (link 1) second-line q1
+        (none-at n first bouncer (only-first n l passes-to .1) noQueued (none-at n (s .queue) (link l) (t .there) q0 (fit-none s (t .fits) full))))
 
 -- ---- what is stored
 
@@ -231,77 +244,92 @@ module _ (s : Simulation) (full : Full s) (l : ℕ) (t : LinkTurn s l) (k : ℕ)
       → (place : ℕ) → place ≡ partOf (s .network .senders) (link l)
       → (q0 : Queued) → q0 ≡ linkSlot true (c .line) (s .head .clock) (getD (set (s .«on_line») (slotOf l (c .at)) new) (slotOf l (c .line .«on_line» .start)) noTransit) (getD (s .queue) place noQueued)
       → (q1 : Queued) → q1 ≡ senderSlot (h .heard) (h .sender) (s .head .clock) (getD (set (s .queue) place q0) (1 + 2 * k) noQueued)
-      → (best : Picked) → best ≡ pickOf (set (set (s .queue) place q0) (1 + 2 * k) q1)
-      → (x : Queued) → x ≡ placeAfterPick (best .time) (getD (set (set (s .queue) place q0) (1 + 2 * k) q1) (best .part) noQueued)
-      → (head : Head) → head ≡ headOf best (best .time)
       → (note : TickRecord) → note ≡ linkNote (s .head .clock) place (c .left) (c .begun) (h .mark)
       → tickOf s ≡ ticked s (moves note
-      (record {
+      (picked (record {
         network = s .network;
-        head = head;
+        head = s .head;
         lines = set (s .lines) l (c .line);
         waiting = s .waiting;
         «on_line» = set (s .«on_line») (slotOf l (c .at)) new;
         senders = set (s .senders) k (h .sender);
         togglers = s .togglers;
         meters = set (s .meters) k (h .meter);
-        queue = set (set (set (s .queue) place q0) (1 + 2 * k) q1) (best .part) x;
-      }))
-  home-stored new en place ep q0 e0 q1 e1 best eb x ex head ed note eo =
+        queue = set (set (s .queue) place q0) (1 + 2 * k) q1;
+      })))
+  home-stored new en place ep q0 e0 q1 e1 note eo =
       let stored = stored-slot (λ y. senderSlot (h .heard) y (s .head .clock) (getD (set (s .queue) place q0) (1 + 2 * k) noQueued)) noSender (s .senders) 16 k (full .senders) (owner-small (frontOf s l .packet) k ek) (h .sender) q1 e1 in
-      let same : set (set (s .queue) place q0) (1 + 2 * k) q1 ≡ heard-state (acted-state s l (slotOf l (c .at)) (c .line) (c .begun)) k h .queue = rw (stored, e0, en, ep) in
-      rw (eo, ed, ex, stored, e0, en, ep)
-      (t .tick ∙ ap (ticked s) (home-moves s l (full .lines) (t .below) c ec z k (λ p o. own-packet s (t .fits) full l (t .there) k ek c ec p o .0) (sym ew ∙ home) h eh best (eb ∙ ap pickOf same)))
+      rw (eo, stored, e0, en, ep)
+      (t .tick ∙ ap (ticked s) (home-moves s l (full .lines) (t .below) c ec z k (λ p o. own-packet s (t .fits) full l (t .there) k ek c ec p o .0) (sym ew ∙ home) h eh))
+
+  -- a sender that hears of its packet is there; else what was queued is stored again
+  heard-there : h .heard ≡ true → k < s .network .senders
+  unfolding heardBy
+  heard-there e = by (c .left) refl (sym (ap (λ (x : Hearing). x .heard) eh) ∙ e)
+    where
+      by : (left : Left) → c .left ≡ left → heardBy (s .network .policy) (senderBits (s .network) k .0) (s .head .clock) l left (senderAt s k) (meterAt s k) .heard ≡ true → k < s .network .senders
+      by Left.Nobody o y = absurd (true≢false (sym y))
+      by (Left.Lost p) o y = absurd (true≢false (sym y))
+      by (Left.Out p) o y = own-packet s (t .fits) full l (t .there) k ek c ec p o .1
+
+  pub home-none : (place : ℕ) → place ≡ partOf (s .network .senders) (link l) → (q0 q1 : Queued) → q1 ≡ senderSlot (h .heard) (h .sender) (s .head .clock) (getD (set (s .queue) place q0) (1 + 2 * k) noQueued)
+      → NoneFrom (partsOf (s .network)) (set (set (s .queue) place q0) (1 + 2 * k) q1)
+  home-none place ep q0 q1 e1 = by (h .heard) refl e1
+    where
+      before : NoneFrom (partsOf (s .network)) (set (s .queue) place q0)
+      before = rw ep (none-at (s .network) (s .queue) (link l) (t .there) q0 (fit-none s (t .fits) full))
+
+      by : (b : Bool) → h .heard ≡ b → q1 ≡ senderSlot b (h .sender) (s .head .clock) (getD (set (s .queue) place q0) (1 + 2 * k) noQueued) → NoneFrom (partsOf (s .network)) (set (set (s .queue) place q0) (1 + 2 * k) q1)
+      by true e y = none-at (s .network) (set (s .queue) place q0) (sender k) (heard-there e) q1 before
+      by false e y = rw (y, set-getD (set (s .queue) place q0) (1 + 2 * k) noQueued) before
 
 module _ (s : Simulation) (full : Full s) (i : ℕ) (t : Turn s (sender i) i) (a : SenderActed) (ea : a ≡ senderActed (s .network) (s .head .clock) (senderAt s i) i) (y : a .number ≡ 0)
     (b : Arriving) (eb : b ≡ arrivedAt 0 (s .network .line .limit) (senderBits (s .network) i .0) (lineAt s 0) (a .sending)) (z : b .number ≡ 0) where
   pub sender-stored : (new : Waiting) → new ≡ waitingAt (b .admitted) (senderBits (s .network) i .0) (a .sending) (getD (s .waiting) (b .at) noWaiting)
       → (q1 : Queued) → q1 ≡ senderSlot true (a .sender) (s .head .clock) (getD (s .queue) (1 + 2 * i) noQueued)
       → (q0 : Queued) → q0 ≡ linkSlot (b .arrives) (b .line) (s .head .clock) (getD (s .«on_line») (b .line .«on_line» .start) noTransit) (getD (set (s .queue) (1 + 2 * i) q1) 0 noQueued)
-      → (best : Picked) → best ≡ pickOf (set (set (s .queue) (1 + 2 * i) q1) 0 q0)
-      → (x : Queued) → x ≡ placeAfterPick (best .time) (getD (set (set (s .queue) (1 + 2 * i) q1) 0 q0) (best .part) noQueued)
-      → (head : Head) → head ≡ headOf best (best .time)
       → (note : TickRecord) → note ≡ senderNote (s .head .clock) i (a .sending) (b .mark)
       → tickOf s ≡ ticked s (moves note
-      (record {
+      (picked (record {
         network = s .network;
-        head = head;
+        head = s .head;
         lines = set (s .lines) 0 (b .line);
         waiting = set (s .waiting) (b .at) new;
         «on_line» = s .«on_line»;
         senders = set (s .senders) i (a .sender);
         togglers = s .togglers;
         meters = s .meters;
-        queue = set (set (set (s .queue) (1 + 2 * i) q1) 0 q0) (best .part) x;
-      }))
-  sender-stored new en q1 e1 q0 e0 best ep x ex head ed note eo =
+        queue = set (set (s .queue) (1 + 2 * i) q1) 0 q0;
+      })))
+  sender-stored new en q1 e1 q0 e0 note eo =
       let stored = stored-slot (λ y. senderSlot true y (s .head .clock) (getD (s .queue) (1 + 2 * i) noQueued)) noSender (s .senders) 16 i (full .senders) (t .below) (a .sender) q1 e1 in
-      let same : set (set (s .queue) (1 + 2 * i) q1) 0 q0 ≡ sender-state s i a b .queue = rw (e0, stored, zero-add (b .line .«on_line» .start)) in
-      rw (eo, ed, ex, e0, stored, en) (t .tick ∙ ap (ticked s) (rw (zero-add (b .at), zero-add (b .line .«on_line» .start)) at (sender-moves s (full .lines) i a ea y b eb z best (ep ∙ ap pickOf same))))
+      rw (eo, e0, stored, en) (t .tick ∙ ap (ticked s) (rw (zero-add (b .at), zero-add (b .line .«on_line» .start)) at (sender-moves s (full .lines) i a ea y b eb z)))
+
+  pub sender-none : (q1 q0 : Queued) → NoneFrom (partsOf (s .network)) (set (set (s .queue) (1 + 2 * i) q1) 0 q0)
+  sender-none q1 q0 = none-at (s .network) (set (s .queue) (1 + 2 * i) q1) (link 0) (first-line (s .network)) q0 (none-at (s .network) (s .queue) (sender i) (t .inside) q1 (fit-none s (t .fits) full))
 
 module _ (s : Simulation) (full : Full s) (i : ℕ) (t : Turn s (toggler i) i) (g : Toggled) (eg : g ≡ toggleOf (togglerAt s i) (s .head .clock) (s .network .on) (s .network .off)) (y : g .number ≡ 0)
     (o : LossySender) (eo : o ≡ switchedTo (s .network .policy) (g .toggler .enabled) (senderAt s i) (s .head .clock))
     (m : Metered) (em : m ≡ switchedOf (meterAt s i) (g .toggler .enabled) (s .head .clock)) where
   pub toggler-stored : (q2 : Queued) → q2 ≡ togglerSlot (g .toggler)
       → (q1 : Queued) → q1 ≡ senderSlot true o (s .head .clock) (getD (set (s .queue) (2 + 2 * i) q2) (1 + 2 * i) noQueued)
-      → (best : Picked) → best ≡ pickOf (set (set (s .queue) (2 + 2 * i) q2) (1 + 2 * i) q1)
-      → (x : Queued) → x ≡ placeAfterPick (best .time) (getD (set (set (s .queue) (2 + 2 * i) q2) (1 + 2 * i) q1) (best .part) noQueued)
-      → (head : Head) → head ≡ headOf best (best .time)
       → (note : TickRecord) → note ≡ togglerNote (s .head .clock) i (g .toggler .enabled)
       → tickOf s ≡ ticked s (moves note
-      (record {
+      (picked (record {
         network = s .network;
-        head = head;
+        head = s .head;
         lines = s .lines;
         waiting = s .waiting;
         «on_line» = s .«on_line»;
         senders = set (s .senders) i o;
         togglers = set (s .togglers) i (g .toggler);
         meters = set (s .meters) i (m .meter);
-        queue = set (set (set (s .queue) (2 + 2 * i) q2) (1 + 2 * i) q1) (best .part) x;
-      }))
-  toggler-stored q2 e2 q1 e1 best ep x ex head ed note en =
+        queue = set (set (s .queue) (2 + 2 * i) q2) (1 + 2 * i) q1;
+      })))
+  toggler-stored q2 e2 q1 e1 note en =
       let flips = stored-slot togglerSlot noToggler (s .togglers) 16 i (full .togglers) (t .below) (g .toggler) q2 e2 in
       let sends = stored-slot (λ y. senderSlot true y (s .head .clock) (getD (set (s .queue) (2 + 2 * i) q2) (1 + 2 * i) noQueued)) noSender (s .senders) 16 i (full .senders) (t .below) o q1 e1 in
-      let same : set (set (s .queue) (2 + 2 * i) q2) (1 + 2 * i) q1 ≡ toggler-state s i (g .toggler) o (m .meter) .queue = rw (sends, flips) in
-      rw (en, ed, ex, sends, flips) (t .tick ∙ ap (ticked s) (toggler-moves s i g eg y o eo m em best (ep ∙ ap pickOf same)))
+      rw (en, sends, flips) (t .tick ∙ ap (ticked s) (toggler-moves s i g eg y o eo m em))
+
+  pub toggler-none : (q2 q1 : Queued) → NoneFrom (partsOf (s .network)) (set (set (s .queue) (2 + 2 * i) q2) (1 + 2 * i) q1)
+  toggler-none q2 q1 = none-at (s .network) (set (s .queue) (2 + 2 * i) q2) (sender i) (t .inside) q1 (none-at (s .network) (s .queue) (toggler i) (t .inside) q2 (fit-none s (t .fits) full))

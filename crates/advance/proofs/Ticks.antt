@@ -2,12 +2,14 @@
 use mathlib.Core.Path.{_≡_, refl, sym, ap, subst, _∙_}
 use mathlib.Core.Bool.{Bool, true, false, _&&_, cond}
 use mathlib.Core.List.{List, [], _∷_, map}
-use Prim.Native.Nat.{ℕ, suc, _+_, _*_, _-_, _≤_, _<_, _^_}
+use Prim.Native.Nat.{ℕ, suc, _+_, _*_, _-_, _%_, _≤_, _<_, _^_}
 use native.Mathlib.Omega.{arith}
-use lib.ListN.{length, set, length-set}
+use lib.ListN.{length, set, replicate, length-set}
 use lib.Dec.{leb, eqb}
 use lib.Ieee.{lt, eq}
 use borrow.Author.Tests.{leb-true, eqb-true, lt-ltb}
+use Rattle.quantities.specs.declared.time.OptionTime.{OptionTime}
+use Rattle.quantities.specs.declared.time.OptionTime.the-variants.{None, Some}
 use Rattle.quantities.specs.Doubles.{power}
 use Rattle.rand.specs.Draws.{unitOf}
 use Rattle.link.specs.declared.packet.Packet.{Packet}
@@ -15,32 +17,37 @@ use Rattle.link.specs.declared.packet.Waiting.{Waiting}
 use Rattle.link.specs.declared.link.Left.{Left}
 use Rattle.link.specs.declared.link.Left.the-variants as Left
 use Rattle.link.specs.declared.link.Delivered.{Delivered}
-use Rattle.toggler.specs.declared.tick_queue.Queued.{Queued}
-use Rattle.toggler.specs.declared.tick_queue.Picked.{Picked}
 use Rattle.link.specs.Link.{isDue, departed, tryDeliver}
-use Rattle.toggler.specs.Queue.{queuePlaces, pickOf}
+use Rattle.toggler.specs.declared.tick_queue.Picked.{Picked}
+use Rattle.toggler.specs.Queue.{queuePlaces, noQueued, pickOf}
 use Rattle.link.proofs.Items.{Sound, items-length}
+use Rattle.remy.specs.declared.network.RemyNetwork.{RemyNetwork}
 use Rattle.remy.specs.declared.simulation.Next.{Next}
 use Rattle.remy.specs.declared.simulation.Next.the-variants as Next
 use Rattle.remy.specs.declared.simulation.Simulation.{Simulation}
 use Rattle.remy.specs.declared.simulation.TickRecord.{TickRecord}
 use Rattle.remy.specs.declared.simulation.Ticked.{Ticked}
-use Rattle.remy.specs.State.{hasBack, lineCount, valuesOf, Role, link, sender, toggler, roleIn, noWaiting, lineAt, frontOf, firstOf, waitingItems, waitingPackets, onLinePackets, senderBits, packetBits, totalBits}
+use Rattle.remy.specs.declared.simulation.Noted.{Noted}
+use Rattle.remy.specs.declared.simulation.Recorded.{Recorded}
+use Rattle.remy.specs.State.{hasBack, lineCount, valuesOf, Role, link, sender, toggler, roleIn, partCount, noWaiting, lineAt, frontOf, firstOf, waitingItems, waitingPackets, onLinePackets, senderBits, packetBits, totalBits}
 use Rattle.remy.specs.HeldTimes.{Full}
 use Rattle.remy.specs.Fit.{every, eachLine, packetFit, packetsFit, bitsFit, carries, carriedFit, fit}
-use Rattle.remy.specs.Tick.{emptyRecord, moves, outcomeOf, actsOf, unmoved, ticked, tickNext, tickOf}
+use Rattle.remy.specs.Tick.{moves, outcomeOf, actsOf, unmoved, ticked, tickNext, tickOf}
+use Rattle.remy.specs.Queue.{removed, picked}
+use Rattle.remy.specs.Run.{batch, noNoted, notedWith, notedOf}
 use Rattle.remy.proofs.Facts.{both-l, both-r, upTo-at, first-there, second-there, FitState, fit-state}
 use Rattle.remy.proofs.Networks.{few-senders, few-bits}
 use Rattle.remy.proofs.Front.{accepted, rings, names-sender, front-sender}
 use Rattle.remy.proofs.Roles.{role-elim}
+use Rattle.steady.specs.Clock.{Typed}
+use Rattle.steady.proofs.Clock.{tick-typed}
 use Rattle.steady.proofs.Steady.{Steady, tick-steady}
 use Rattle.queueing.specs.declared.Now.{Now}
 use Rattle.queueing.specs.declared.Now.the-variants as Now
 use Rattle.turns.specs.declared.LinkActed.{LinkActed}
-use Rattle.queueing.proofs.Picks.{part-inside}
+use Rattle.toggler.proofs.Pick.{NoneFrom}
 use Rattle.queueing.specs.Queueing.{nowRole, nowNext, nowOf}
 use Rattle.turns.specs.Turns.{ownerOf, linkValues, linkActed}
-use Rattle.advance.specs.declared.Advanced.{Advanced}
 use Rattle.advance.specs.Advance.{advanceOf}
 
 -- ---- whose turn it is
@@ -82,26 +89,87 @@ now-tick s w e = subst (TickAs s) (sym e) (by (fit s) refl)
 
 -- ---- the loop's equation
 
-pub begins : (n : ℕ) (r : TickRecord) (s : Simulation) → r ≡ emptyRecord → advanceOf (n - 0) 0 r s ≡ advanceOf n 0 emptyRecord s
-begins n r s e = let all : n - 0 ≡ n = omega arith in rw (all, e)
+pub begins : (n : ℕ) (notes : List Noted) (s : Simulation) → notes ≡ replicate batch noNoted → advanceOf (n - 0) 0 notes s ≡ advanceOf n 0 (replicate batch noNoted) s
+begins n notes s e = let all : n - 0 ≡ n = omega arith in rw (all, e)
 
-module _ (n d : ℕ) (r : TickRecord) (s : Simulation) where
-  pub goes-on : d < n → (x : TickRecord) (m : Simulation) → tickOf s ≡ ticked s (moves x m) → advanceOf (n - (d + 1)) (d + 1) x m ≡ advanceOf (n - d) d r s
+module _ (n d : ℕ) (notes : List Noted) (s : Simulation) where
+  goes-on : d < n → (x : TickRecord) (m : Simulation) → tickOf s ≡ ticked s (moves x m) → advanceOf (n - (d + 1)) (d + 1) (set notes (d % batch) (notedOf x m)) m ≡ advanceOf (n - d) d notes s
   unfolding advanceOf
   goes-on h x m e = let one : n - d ≡ suc (n - (d + 1)) = omega (arith, h) in rw (one, e)
 
-  -- a steady state stays so
-  pub goes-steady : d < n → (x : TickRecord) (m : Simulation) → tickOf s ≡ ticked s (moves x m) → (all : Advanced) (b : Bool) → (advanceOf (n - d) d r s ≡ all) × (b ≡ true → Steady s)
-      → (advanceOf (n - (d + 1)) (d + 1) x m ≡ all) × (b ≡ true → Steady m)
-  goes-steady h x m e all b k = (goes-on h x m e ∙ k .0, λ t. subst (λ (y : Ticked). Steady (y .simulation)) e (tick-steady s (k .1 t)))
-
-  pub stops-there : d < n → (k : ℕ) → tickOf s ≡ unmoved s k → record { done = d; number = k; note = emptyRecord; simulation = s } ≡ advanceOf (n - d) d r s
+  stops-there : d < n → (k : ℕ) → tickOf s ≡ unmoved s k → record { done = d; number = k; records = notes; simulation = s } ≡ advanceOf (n - d) d notes s
   unfolding advanceOf
   stops-there h k e = let one : n - d ≡ suc (n - (d + 1)) = omega (arith, h) in rw (one, e)
 
-  pub all-done : n ≤ d → record { done = d; number = 0; note = r; simulation = s } ≡ advanceOf (n - d) d r s
+  all-done : n ≤ d → record { done = d; number = 0; records = notes; simulation = s } ≡ advanceOf (n - d) d notes s
   unfolding advanceOf
   all-done h = let none : n - d ≡ 0 = omega (arith, h) in rw none
+
+-- how many parts a network has
+abbrev pub partsOf : RemyNetwork → ℕ
+partsOf n = partCount (n .senders) (hasBack (n .back))
+
+-- ---- what the loop keeps, with so many ticks done
+
+-- of a state whose part has its turn next: the ticks left give what all give from the start; what the types of code say; and it is steady, where the loop began with such a state
+pub record Due (all : Recorded) (steady : Bool) (n d : ℕ) (notes : List Noted) (s : Simulation) : Type 0 where
+  pub same : advanceOf (n - d) d notes s ≡ all
+  pub typed : Typed s
+  pub keeps : steady ≡ true → Steady s
+
+-- of a state that is ripe for the pick, after a turn with this record: the picked state is due, and no place but those of the parts holds a time
+pub record Ripe (all : Recorded) (steady : Bool) (n parts d : ℕ) (notes : List Noted) (note : TickRecord) (m : Simulation) : Type 0 where
+  pub left : d < n
+  pub few : parts ≤ queuePlaces
+  pub none : NoneFrom parts (m .queue)
+  pub next : Due all steady n (d + 1) (set notes (d % batch) (notedOf note (picked m))) (picked m)
+
+abbrev pub Kept : Bool → Recorded → Bool → ℕ → ℕ → ℕ → List Noted → TickRecord → Simulation → Type 0
+Kept false all steady n parts d notes note s = Due all steady n d notes s
+Kept true all steady n parts d notes note s = Ripe all steady n parts d notes note s
+
+module _ (all : Recorded) (steady : Bool) (n d : ℕ) (notes : List Noted) (s : Simulation) (k : Due all steady n d notes s) where
+  -- a tick that does not move ends the loop
+  pub ends : d < n → (number : ℕ) → tickOf s ≡ unmoved s number → record { done = d; number = number; records = notes; simulation = s } ≡ all
+  ends h number e = stops-there n d notes s h number e ∙ k .same
+
+  ends-done : n ≤ d → record { done = d; number = 0; records = notes; simulation = s } ≡ all
+  ends-done h = all-done n d notes s h ∙ k .same
+
+  -- a turn makes it ripe
+  pub ripens : d < n → (parts : ℕ) → parts ≤ queuePlaces → (x : TickRecord) (m : Simulation) → tickOf s ≡ ticked s (moves x (picked m)) → NoneFrom parts (m .queue) → Ripe all steady n parts d notes x m
+  ripens h parts few x m e none =
+      record {
+        left = h;
+        few = few;
+        none = none;
+        next =
+            record {
+              same = goes-on n d notes s h x (picked m) e ∙ k .same;
+              typed = subst (λ (y : Ticked). Typed (y .simulation)) e (tick-typed s (k .typed));
+              keeps = λ t. subst (λ (y : Ticked). Steady (y .simulation)) e (tick-steady s (k .keeps t));
+            };
+      }
+
+module _ (all : Recorded) (steady : Bool) (n parts d : ℕ) (notes : List Noted) (note : TickRecord) (m : Simulation) where
+  -- a state that is ripe is none to end with: its tick is left
+  pub ends-kept : (b : Bool) → Kept b all steady n parts d notes note m → n ≤ d → record { done = d; number = 0; records = notes; simulation = m } ≡ all
+  ends-kept false k h = ends-done all steady n d notes m k h
+  ends-kept true k h = let more = k .left in absurd (omega (arith, more, h))
+
+  module _ (k : Ripe all steady n parts d notes note m) where
+    picked-long : (p : Picked) (t : OptionTime) → length (removed (m .queue) p t) ≡ length (m .queue)
+    picked-long p None = refl
+    picked-long p (Some t) = length-set (m .queue) (p .part) noQueued
+
+    pub ripe-full : length (m .queue) ≡ queuePlaces
+    unfolding picked
+    ripe-full = let p = pickOf (m .queue) in sym (picked-long p (p .time)) ∙ k .next .typed .full .queue
+
+    -- the pick makes it due
+    pub picked-due : (s : Simulation) → s ≡ picked m → (at : ℕ) → at ≡ d % batch → (x : Noted) → x ≡ notedWith note (lineAt m 0) → Due all steady n (d + 1) (set notes at x) s
+    unfolding picked
+    picked-due s e at ea x ex = rw (e, ea, ex) (k .next)
 
 -- ---- what is in range in a fit state
 
@@ -166,16 +234,3 @@ module _ (s : Simulation) (e : fit s ≡ true) where
             (ap (λ (q : Packet). q .sender) same ∙ sym owner, omega (arith, named, owner))
         by true false c n o = let no : _≡_ {A = ℕ} 0 1 = cc in absurd (omega arith)
         by false b c n o = let no : _≡_ {A = ℕ} 0 1 = cc in absurd (omega arith)
-
--- ---- the picked part
-
-as-long : {A : Type 0} (l : List A) (n : ℕ) → length l ≡ n → (i : ℕ) (x : A) → length (set l i x) ≡ n
-as-long l n full i x = length-set l i x ∙ full
-
--- it is a place of the queue, also where places were stored anew
-pub picked-two : (queue : List Queued) → length queue ≡ queuePlaces → (i : ℕ) (x : Queued) (j : ℕ) (y : Queued) (q : Picked) → q ≡ pickOf (set (set queue i x) j y) → q .part < queuePlaces
-picked-two queue full i x j y q e = part-inside (set (set queue i x) j y) q e (as-long (set queue i x) queuePlaces (as-long queue queuePlaces full i x) j y)
-
-pub picked-three : (queue : List Queued) → length queue ≡ queuePlaces → (h : ℕ) (w : Queued) (i : ℕ) (x : Queued) (j : ℕ) (y : Queued) (q : Picked)
-    → q ≡ pickOf (set (set (set queue h w) i x) j y) → q .part < queuePlaces
-picked-three queue full h w i x j y q e = picked-two (set queue h w) (as-long queue queuePlaces full h w) i x j y q e

@@ -1,2 +1,3 @@
 -- Laws that the crates above cite.
 pub mod Picks
+pub mod Parts

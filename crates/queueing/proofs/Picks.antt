@@ -1,6 +1,6 @@
 -- The picked part is one of the queue's places; and the pick of a state out of its parts. Assumes nothing.
 use Prim.Native.Nat.{ℕ, _+_, _≤_, _<_}
-use mathlib.Core.Path.{_≡_, refl}
+use mathlib.Core.Path.{_≡_, refl, sym, ap, subst}
 use mathlib.Core.Bool.{Bool, true, false, cond}
 use mathlib.Core.List.{List, [], _∷_}
 use native.Mathlib.Omega.{arith}
@@ -11,6 +11,7 @@ use Rattle.quantities.specs.declared.time.OptionTime.the-variants.{None, Some}
 use Rattle.toggler.specs.declared.tick_queue.Queued.{Queued}
 use Rattle.toggler.specs.declared.tick_queue.Picked.{Picked}
 use Rattle.toggler.specs.Queue.{queuePlaces, noQueued, sooner, better, pickFrom, pickOf}
+use Rattle.toggler.proofs.Least.{picked-nothing}
 use Rattle.remy.specs.declared.simulation.Head.{Head}
 use Rattle.remy.specs.declared.simulation.Simulation.{Simulation}
 use Rattle.remy.specs.State.{withHead, withQueue}
@@ -39,3 +40,14 @@ pub picks : (s : Simulation) (p : Picked) (h : Head) (x : Queued) → p ≡ pick
     → withHead (withQueue s (set (s .queue) (p .part) x)) h ≡ picked s
 unfolding picked
 picks s p h x e f g = rw (f, g, removed-at (s .queue) p (p .time), e)
+
+-- where nothing is picked, the place holds no time: the picked place is emptied in either case
+emptied : (queue : List Queued) (t : OptionTime) → pickOf queue .time ≡ t → noQueued ≡ placeAfterPick t (getD queue (pickOf queue .part) noQueued)
+emptied queue None e = sym (ap (λ (t : OptionTime). record { time = t }) (picked-nothing queue e (pickOf queue .part)))
+emptied queue (Some t) e = refl
+
+-- the same with the picked place emptied and no test
+pub picks-emptied : (s : Simulation) (p : Picked) (h : Head) → p ≡ pickOf (s .queue) → h ≡ headOf p (p .time)
+    → withHead (withQueue s (set (s .queue) (p .part) noQueued)) h ≡ picked s
+picks-emptied s p h e f =
+    picks s p h noQueued e f (subst (λ (q : Picked). noQueued ≡ placeAfterPick (q .time) (getD (s .queue) (q .part) noQueued)) (sym e) (emptied (s .queue) (pickOf (s .queue) .time) refl))

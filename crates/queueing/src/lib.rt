@@ -4,7 +4,7 @@
 // All functions here are helpers for the crates `advance` and `builder`, and no entry points.
 ghost use mathlib.Core.Path.{_≡_};
 ghost use Prim.Native.Nat.{_≤_};
-ghost use Rattle.remy.specs.State.{hasBack, link, roleOf};
+ghost use Rattle.remy.specs.State.{hasBack, link, roleOf, partCount};
 ghost use Rattle.remy.specs.Queue.{partOf, headOf};
 ghost use Rattle.queueing.specs.Queueing.{nowRole, nowOf, linkSlot, senderSlot, togglerSlot, placeAfterPick};
 use link::Line;
@@ -86,13 +86,43 @@ pub fn link_part(l: usize, senders: u32) -> usize
     2 + 2 * (senders as usize)
 }
 
+// How many parts there are among so many senders, with a return line or without.
+pub fn part_count(senders: u32, back: ReturnLine) -> usize
+    ensures { λ r. ⌜ r ≡ partCount senders (hasBack back) ⌝ }
+{
+    let each = 2 * (senders as usize);
+    if has_back(back) {
+        return 3 + each;
+    }
+    1 + each
+}
+
+// A time made anew from its parts: the machine code then copies no bytes between them (docs/BENCHMARKS.md,
+// "Values made anew").
+pub fn time_anew(time: OptionTime) -> OptionTime
+    ensures { λ r. ⌜ r ≡ time ⌝ }
+{
+    match time {
+        OptionTime::None => OptionTime::None,
+        OptionTime::Some(t) => OptionTime::Some(t),
+    }
+}
+
+fn queued_anew(old: Queued) -> Queued
+    ensures { λ r. ⌜ r ≡ old ⌝ }
+{
+    let held = old.time;
+    let time = time_anew(held);
+    Queued { time }
+}
+
 // What the place of a link in the queue holds, and of a sender: anew where something changed, else what
 // it held.
 pub fn link_slot(changed: bool, line: Line, clock: Time, front: Transit, old: Queued) -> Queued
     ensures { λ r. ⌜ r ≡ linkSlot changed line clock front old ⌝ }
 {
     if !changed {
-        return old;
+        return queued_anew(old);
     }
     let time = link::next_tick(line, clock, front.due);
     Queued { time }
@@ -102,7 +132,7 @@ pub fn sender_slot(changed: bool, sender: LossySender, clock: Time, old: Queued)
     ensures { λ r. ⌜ r ≡ senderSlot changed sender clock old ⌝ }
 {
     if !changed {
-        return old;
+        return queued_anew(old);
     }
     let time = sender.next_tick(clock);
     Queued { time }

@@ -18,7 +18,7 @@ use Rattle.remy.specs.declared.simulation.TickRecord.{TickRecord}
 use Rattle.remy.specs.declared.simulation.Ticked.{Ticked}
 use Rattle.remy.specs.State.{hasBack, lineCount, roleIn, waitingItems, onLineItems}
 use Rattle.remy.specs.Fit.{fit}
-use Rattle.remy.specs.Tick.{Outcome, moves, stops, outcomeOf, unmoved, ticked, tickNext, tickOf}
+use Rattle.remy.specs.Tick.{Outcome, moves, stops, outcomeOf, emptyRecord, unmoved, ticked, tickNext, tickOf}
 use Rattle.remy.specs.HeldTimes.{Has}
 use Rattle.remy.specs.History.{Call, tick, called, after, noted, history, Fresh, PacketId, idOf, ids, entries, letterOf, isS, isF, isL, isC, isO, isI, isP, isQ, sends, admittedBy, admissions, starts, comesBack, leavesBy, leaves, droppedFull, lost, droppedBack, lostBack, counted, old, ignored}
 use Rattle.remy.specs.Queue.{partOf}
@@ -86,6 +86,14 @@ pub unmoved-same : (s : Simulation) → tickOf s .moved ≡ false → tickOf s .
 unmoved-same s = outcome-elim (λ (t : Ticked). t .moved ≡ false → t .simulation ≡ s) s of-outcome
   where
     of-outcome : (o : Outcome) → ticked s o .moved ≡ false → ticked s o .simulation ≡ s
+    of-outcome (stops k) e = refl
+    of-outcome (moves x m) e = absurd (true≢false e)
+
+-- and has the empty record
+pub unmoved-empty : (s : Simulation) → tickOf s .moved ≡ false → tickOf s .note ≡ emptyRecord
+unmoved-empty s = outcome-elim (λ (t : Ticked). t .moved ≡ false → t .note ≡ emptyRecord) s of-outcome
+  where
+    of-outcome : (o : Outcome) → ticked s o .moved ≡ false → ticked s o .note ≡ emptyRecord
     of-outcome (stops k) e = refl
     of-outcome (moves x m) e = absurd (true≢false e)
 

@@ -2,7 +2,7 @@
 -- The crate `points` has the worked example whole. Assumes nothing.
 use mathlib.Core.Path.{_≡_, refl}
 use mathlib.Core.Bool.{false}
-use mathlib.Core.List.{List, [], _∷_}
+use mathlib.Core.List.{List, [], _∷_, map}
 use Prim.Native.Nat.{ℕ}
 use lib.IntN.{pos}
 use lib.ListN.{replicate}
@@ -29,6 +29,7 @@ use Rattle.remy.specs.declared.simulation.TickRecord.{TickRecord}
 use Rattle.remy.specs.State.{lineAt, meterAt, withLine, withQueued}
 use Rattle.remy.specs.Build.{buildOf}
 use Rattle.remy.specs.Tick.{tickOf}
+use Rattle.remy.specs.Run.{notesOf}
 use Rattle.remy.specs.History.{ticks, after, history}
 use Rattle.remy.proofs.Opened.{ticking}
 
@@ -96,6 +97,11 @@ worked-history : history (ticks 7) worked
     ∷ []
 unfolding ticking
 worked-history = refl
+
+-- the bits that wait after each tick: 8 from a send on, until that packet starts
+worked-waiting : map (λ x. x .waiting) (notesOf 7 worked) ≡ amountOf 0 ∷ amountOf 8 ∷ amountOf 0 ∷ amountOf 8 ∷ amountOf 8 ∷ amountOf 0 ∷ amountOf 8 ∷ []
+unfolding ticking notesOf
+worked-waiting = refl
 
 -- one packet left, so one sample was drawn
 worked-words : lineAt (after (ticks 7) worked) 0 .rng ≡ fromWords 14956314531195876544 7576440072486442806 6053824538967488443 6254198100547973758

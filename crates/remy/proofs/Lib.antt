@@ -27,3 +27,4 @@ pub mod Account
 pub mod Names
 pub mod Numbers
 pub mod Joins
+pub mod Records

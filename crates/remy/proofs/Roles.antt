@@ -1,13 +1,13 @@
 -- A part's role, and a role's part. Assumes nothing.
 use mathlib.Core.Path.{_≡_, refl, sym, subst}
-use mathlib.Core.Bool.{Bool, true, _&&_, cond}
+use mathlib.Core.Bool.{Bool, true, false, _&&_, cond}
 use Prim.Native.Nat.{ℕ, zero, suc, _+_, _-_, _*_, _/_, _%_, _≤_, _<_}
 use native.Mathlib.Omega.{arith}
 use borrow.Author.Tests.{lt-ltb, eq-eqb, ne-eqb, le-ltb, ltb-true, eqb-true, eqb-false}
 use lib.Dec.{ltb, eqb}
 use Rattle.toggler.specs.Queue.{queuePlaces}
 use Rattle.remy.specs.declared.network.RemyNetwork.{RemyNetwork}
-use Rattle.remy.specs.State.{hasBack, Role, link, bouncer, sender, toggler, nobody, senderPart, togglerPart, roleOf, roleIn}
+use Rattle.remy.specs.State.{hasBack, Role, link, bouncer, sender, toggler, nobody, senderPart, togglerPart, roleOf, roleIn, partCount}
 use Rattle.remy.specs.Queue.{partOf}
 use Rattle.remy.proofs.Facts.{both-l, both-r, first-there, second-there, at-second}
 use Rattle.remy.proofs.Steps.{cond-elim}
@@ -109,11 +109,42 @@ role-there n back nobody r = absurd r
 pub role-of : (n : RemyNetwork) (role : Role) → Real n role → roleIn n (partOf (n .senders) role) ≡ role
 role-of n = role-there (n .senders) (hasBack (n .back))
 
--- its part has a place in the queue
+-- ---- how many parts there are
+
+-- beside the senders and togglers
+more : (back : Bool) → (1 ≤ cond back 3 1) × (cond back 3 1 ≤ 3)
+more true = (omega arith, omega arith)
+more false = (omega arith, omega arith)
+
+-- each has a place in the queue
+pub parts-few : (n : ℕ) (back : Bool) → n ≤ 16 → partCount n back ≤ queuePlaces
+parts-few n back few = let most = more back .1 in omega (arith, most)
+
+-- the part of a role that is there is one of them
+below : (n : ℕ) (back : Bool) (role : Role) → There n back role → partOf n role < partCount n back
+below n back (link zero) r = let some = more back .0 in omega (arith, some)
+below n back (link (suc l)) r = rw (at-second back l r .1) (omega arith)
+below n back bouncer r = rw r (omega arith)
+below n back (sender i) r = let some = more back .0 in omega (arith, some)
+below n back (toggler i) r = let some = more back .0 in omega (arith, some)
+below n back nobody r = absurd r
+
+pub part-below : (n : RemyNetwork) (role : Role) → Real n role → partOf (n .senders) role < partCount (n .senders) (hasBack (n .back))
+part-below n = below (n .senders) (hasBack (n .back))
+
+-- so it has a place in the queue
 pub part-inside : (n : RemyNetwork) (role : Role) → n .senders ≤ 16 → Real n role → partOf (n .senders) role < queuePlaces
-part-inside n (link zero) few r = omega arith
-part-inside n (link (suc l)) few r = omega arith
-part-inside n bouncer few r = omega arith
-part-inside n (sender i) few r = omega arith
-part-inside n (toggler i) few r = omega arith
-part-inside n nobody few r = absurd r
+part-inside n role few r =
+    let one = part-below n role r in
+    let all = parts-few (n .senders) (hasBack (n .back)) few in
+    omega (arith, one, all)
+
+-- a part past them is nobody's
+pub role-none : (n : RemyNetwork) (k : ℕ) → partCount (n .senders) (hasBack (n .back)) ≤ k → roleIn n k ≡ nobody
+role-none n k past =
+    role-at (λ (role : Role). role ≡ nobody) n k
+    (λ role r e.
+    let one = part-below n role r in
+    let no : ⊥ = omega (arith, past, e, one) in
+    absurd no)
+    refl

@@ -74,6 +74,10 @@ roleOf n back k =
 abbrev pub roleIn : RemyNetwork → ℕ → Role
 roleIn n k = roleOf (n .senders) (hasBack (n .back)) k
 
+-- how many parts there are among n senders, with a return line or without
+abbrev pub partCount : ℕ → Bool → ℕ
+partCount n back = cond back 3 1 + 2 * n
+
 -- ---- elements; each default is what the code's arrays give where nothing stands
 
 abbrev pub noTime : Time

@@ -3,6 +3,7 @@ use link::Line;
 use link::Transit;
 use link::Waiting;
 use meters::AverageFlowMeter;
+use quantities::Information;
 use quantities::Time;
 use sender::LossySender;
 use toggler::Queued;
@@ -87,5 +88,20 @@ pub struct Ticked {
 pub struct Ran {
     pub done: u32,
     pub number: u32,
+    pub simulation: Simulation,
+}
+
+// A tick's record, and the bits that wait for the first line after it.
+pub struct Noted {
+    pub note: TickRecord,
+    pub waiting: Information,
+}
+
+// What a run with records gives: how many ticks were done, the last number, their records from the
+// first place on, and the simulation.
+pub struct Recorded {
+    pub done: u32,
+    pub number: u32,
+    pub records: [Noted; 256],
     pub simulation: Simulation,
 }

@@ -2,17 +2,21 @@
 use Prim.Native.Nat.{ℕ}
 use mathlib.Core.Path.{_≡_, refl, sym, ap, subst, _∙_}
 use mathlib.Core.Bool.{Bool, true, false, cond}
-use mathlib.Core.List.{List, [], _∷_, _++_}
+use mathlib.Core.List.{List, [], _∷_, _++_, map}
+use lib.ListN.{take}
 use Rattle.remy.specs.declared.simulation.Simulation.{Simulation}
 use Rattle.remy.specs.declared.simulation.TickRecord.{TickRecord}
 use Rattle.remy.specs.declared.simulation.Ticked.{Ticked}
 use Rattle.remy.specs.declared.simulation.Ran.{Ran}
+use Rattle.remy.specs.declared.simulation.Recorded.{Recorded}
 use Rattle.remy.specs.Tick.{tickOf}
+use Rattle.remy.specs.Run.{runOf, notesOf, batchOf, recordsOf, ranOf}
 use Rattle.remy.specs.History.{Call, tick, ticks, called, after, history, noted}
 use Rattle.remy.specs.Account.{Account}
 use Rattle.remy.specs.Joins.{TickByTick}
 use Rattle.remy.proofs.Account.{demand3}
-use Rattle.simulation.specs.Reached.{TickAccount, RunAccount}
+use Rattle.simulation.specs.Reached.{TickAccount, RunAccount, RecordsAccount}
+use Rattle.remy.proofs.Records.{noteOf, notes-history, first-notes, records-ran}
 
 -- ---- calls and histories append
 
@@ -47,3 +51,15 @@ pub run-account : (k : ℕ) (s : Simulation) (r : Ran) → TickByTick k s r → 
 run-account k s r steps n s₀ fresh cs reached =
     let state : after (cs ++ ticks (r .done)) s₀ ≡ r .simulation = after-append cs (ticks (r .done)) s₀ ∙ ap (after (ticks (r .done))) (sym reached) ∙ sym (steps .state) in
     subst (Account n (history (cs ++ ticks (r .done)) s₀)) state (demand3 n s₀ fresh (cs ++ ticks (r .done)))
+
+-- ---- a run with records
+
+pub records-account : (k : ℕ) (s : Simulation) (r : Recorded) → r ≡ recordsOf k s → TickByTick (batchOf k) s (ranOf r) → RecordsAccount s r
+records-account k s r e steps n s₀ fresh cs reached =
+    let first : take (r .done) (r .records) ≡ notesOf (batchOf k) s = ap (λ (x : Recorded). take (x .done) (x .records)) e ∙ first-notes k s in
+    let done : r .done ≡ runOf (batchOf k) s .done = ap (λ (x : Recorded). x .done) e ∙ ap (λ (x : Ran). x .done) (records-ran k s) in
+    let these : history (ticks (r .done)) s ≡ map noteOf (take (r .done) (r .records)) =
+    ap (λ (d : ℕ). history (ticks d) s) done ∙ sym (notes-history (batchOf k) s) ∙ ap (map noteOf) (sym first) in
+    let records : history (cs ++ ticks (r .done)) s₀ ≡ history cs s₀ ++ map noteOf (take (r .done) (r .records)) =
+    history-append cs (ticks (r .done)) s₀ ∙ ap (λ (x : Simulation). history cs s₀ ++ history (ticks (r .done)) x) (sym reached) ∙ ap (λ (l : List TickRecord). history cs s₀ ++ l) these in
+    subst (λ (h : List TickRecord). Account n h (r .simulation)) records (run-account (batchOf k) s (ranOf r) steps n s₀ fresh cs reached)

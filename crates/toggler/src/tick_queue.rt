@@ -14,7 +14,7 @@ pub struct Picked {
 }
 
 // Whether the first time comes before the second. Nothing comes last.
-pub(crate) fn is_sooner(a: OptionTime, b: OptionTime) -> bool
+pub fn is_sooner(a: OptionTime, b: OptionTime) -> bool
     ensures { λ r. ⌜ r ≡ sooner a b ⌝ }
 {
     match a {

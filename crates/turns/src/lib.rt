@@ -3,9 +3,10 @@
 //
 // All functions here are helpers for the crate `advance`, and no entry points.
 ghost use mathlib.Core.Path.{_≡_};
-ghost use Prim.Native.Nat.{_+_, _*_, _≤_, _<_, _^_};
+ghost use Prim.Native.Nat.{_+_, _*_, _%_, _≤_, _<_, _^_};
 ghost use Rattle.remy.specs.State.{valuesOf};
 ghost use Rattle.remy.specs.Tick.{emptyRecord, begunName, lostMark};
+ghost use Rattle.remy.specs.Run.{batch, notedWith};
 ghost use Rattle.turns.specs.Turns.{leftName, ownerOf, linkValues, linkActed, onLineAt, passedOn, heardBy, linkNote, senderActed, arrivalMark, arrivedAt, waitingAt, senderNote, switchedTo, togglerNote};
 use lent::record_lending;
 use link::Begun;
@@ -21,11 +22,14 @@ use quantities::Information;
 use quantities::InformationRate;
 use quantities::Time;
 use quantities::TimeSpan;
+use queueing::time_anew;
 use remy::Mark;
 use remy::Name;
+use remy::Noted;
 use remy::RemyNetwork;
 use remy::ReturnLine;
 use remy::TickRecord;
+use sender::Enabled;
 use sender::Heard;
 use sender::LossySender;
 use sender::Policy;
@@ -77,6 +81,83 @@ pub struct Arriving {
     pub at: usize,
     pub mark: Mark,
     pub line: Line,
+}
+
+// Values made anew from their parts (`queueing::time_anew`).
+fn packet_anew(packet: Packet) -> Packet
+    ensures { λ r. ⌜ r ≡ packet ⌝ }
+{
+    let sent_time = packet.sent_time;
+    Packet {
+        sender: packet.sender,
+        seq: packet.seq,
+        sent_time,
+    }
+}
+
+fn waiting_anew(waiting: Waiting) -> Waiting
+    ensures { λ r. ⌜ r ≡ waiting ⌝ }
+{
+    let held = waiting.packet;
+    let packet = packet_anew(held);
+    let bits = waiting.bits;
+    Waiting { packet, bits }
+}
+
+fn transit_anew(transit: Transit) -> Transit
+    ensures { λ r. ⌜ r ≡ transit ⌝ }
+{
+    let held = transit.packet;
+    let packet = packet_anew(held);
+    let due = transit.due;
+    Transit { packet, due }
+}
+
+fn meter_anew(meter: AverageFlowMeter) -> AverageFlowMeter
+    ensures { λ r. ⌜ r ≡ meter ⌝ }
+{
+    let total_time = meter.total_time;
+    let start = meter.current_start;
+    let current_start = time_anew(start);
+    let total = meter.total;
+    let rtt_sum = meter.rtt_sum;
+    AverageFlowMeter {
+        total_time,
+        current_start,
+        total,
+        records: meter.records,
+        rtt_sum,
+    }
+}
+
+fn sender_anew(sender: LossySender) -> LossySender
+    ensures { λ r. ⌜ r ≡ sender ⌝ }
+{
+    let state = sender.state;
+    let rng = sender.rng;
+    match state {
+        SenderState::WaitingForEnable => LossySender {
+            packets_sent: sender.packets_sent,
+            state: SenderState::WaitingForEnable,
+            rng,
+        },
+        SenderState::Enabled(enabled) => {
+            let started = enabled.started;
+            let held = enabled.timer;
+            let timer = time_anew(held);
+            let same = Enabled {
+                started,
+                greatest_ack: enabled.greatest_ack,
+                cwnd: enabled.cwnd,
+                timer,
+            };
+            LossySender {
+                packets_sent: sender.packets_sent,
+                state: SenderState::Enabled(same),
+                rng,
+            }
+        }
+    }
 }
 
 // The sender of a packet, as an index that is there.
@@ -153,8 +234,8 @@ pub fn on_line_at(begun: Begun, old: Transit) -> Transit
     ensures { λ r. ⌜ r ≡ onLineAt begun old ⌝ }
 {
     match begun {
-        Begun::Nobody => old,
-        Begun::Starts(x) => x,
+        Begun::Nobody => transit_anew(old),
+        Begun::Starts(x) => transit_anew(x),
     }
 }
 
@@ -200,14 +281,20 @@ pub fn hear(
     ensures { λ r. ⌜ r ≡ heardBy policy bits clock l left sender meter ⌝ }
 {
     match left {
-        Left::Nobody => Hearing {
-            heard: false,
-            mark: Mark::None,
-            sender,
-            meter,
-        },
+        Left::Nobody => {
+            let sender = sender_anew(sender);
+            let meter = meter_anew(meter);
+            Hearing {
+                heard: false,
+                mark: Mark::None,
+                sender,
+                meter,
+            }
+        }
         Left::Lost(_) => {
             let mark = lost_mark(l);
+            let sender = sender_anew(sender);
+            let meter = meter_anew(meter);
             Hearing {
                 heard: false,
                 mark,
@@ -218,25 +305,33 @@ pub fn hear(
         Left::Out(p) => {
             let r = sender.receive_packet(policy, p);
             let heard = r.heard;
-            let sender = r.sender;
+            let received = r.sender;
+            let sender = sender_anew(received);
             match heard {
-                Heard::Ignored => Hearing {
-                    heard: true,
-                    mark: Mark::Ignored,
-                    sender,
-                    meter,
-                },
-                Heard::Old => Hearing {
-                    heard: true,
-                    mark: Mark::Old,
-                    sender,
-                    meter,
-                },
+                Heard::Ignored => {
+                    let meter = meter_anew(meter);
+                    Hearing {
+                        heard: true,
+                        mark: Mark::Ignored,
+                        sender,
+                        meter,
+                    }
+                }
+                Heard::Old => {
+                    let meter = meter_anew(meter);
+                    Hearing {
+                        heard: true,
+                        mark: Mark::Old,
+                        sender,
+                        meter,
+                    }
+                }
                 Heard::Counted => {
                     let rtt = clock.sub(p.sent_time);
                     let data = Information(bits);
                     let m = record_lending(meter, Reception { data, rtt }, clock);
-                    let meter = m.meter;
+                    let counted = m.meter;
+                    let meter = meter_anew(counted);
                     Hearing {
                         heard: true,
                         mark: Mark::Counted,
@@ -382,11 +477,12 @@ pub fn waiting_at(admitted: bool, bits: u64, sending: Sending, old: Waiting) -> 
     ensures { λ r. ⌜ r ≡ waitingAt admitted bits sending old ⌝ }
 {
     if !admitted {
-        return old;
+        return waiting_anew(old);
     }
     match sending {
-        Sending::Nothing => old,
-        Sending::Packet(packet) => {
+        Sending::Nothing => waiting_anew(old),
+        Sending::Packet(sent) => {
+            let packet = packet_anew(sent);
             let bits = Information(bits);
             Waiting { packet, bits }
         }
@@ -468,4 +564,19 @@ pub fn empty_record() -> TickRecord
         packet: Name::None,
         started: Name::None,
     }
+}
+
+// A record with the bits that wait for the first line.
+pub fn noted(note: TickRecord, first: Line) -> Noted
+    ensures { λ r. ⌜ r ≡ notedWith note first ⌝ }
+{
+    let waiting = first.buffer_contains;
+    Noted { note, waiting }
+}
+
+// The place of the record of the tick after so many: the places are used over again.
+pub fn record_place(done: u32) -> usize
+    ensures { λ r. ⌜ r ≡ done % batch ⌝ }
+{
+    (done % 256) as usize
 }

@@ -4,8 +4,11 @@ use borrow.Author.Needs.{needs}
 use Rattle.queueing.proofs.sender_slot.Statement.{statement}
 use Rattle.queueing.proofs.sender_slot.Tie as tie
 
+queued-anew-requires : tie.Need-queued-anew-requires
+queued-anew-requires c κs = search needs
+
 returns : tie.Need-returns
-returns c = rw (not-true (c .before .args .changed) (c .if1 .taken))
+returns c = rw (c .queued-anew .ensures, not-true (c .before .before .args .changed) (c .before .if1 .taken))
 
 next-tick-requires : tie.Need-next-tick-requires
 next-tick-requires c κs = search needs
@@ -18,4 +21,4 @@ returns-2 c =
     )
 
 pub sender-slot-spec : {M : Type 1} → statement M
-sender-slot-spec = tie.close (tie.spec returns next-tick-requires returns-2)
+sender-slot-spec = tie.close (tie.spec queued-anew-requires returns next-tick-requires returns-2)

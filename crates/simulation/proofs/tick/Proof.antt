@@ -1,4 +1,4 @@
--- One turn of the loop is the tick, and demand 3 is given on; which numbers it gives, that the clock can't go back, and that it is a run of 1 and joins, is said of the definition.
+-- The loop at 1 is the tick, and demand 3 is given on; which numbers it gives, that the clock can't go back, and that it is a run of 1 and joins, is said of the definition.
 -- Assumes nothing.
 use mathlib.Core.Path.{sym, ap, subst, _∙_}
 use borrow.Author.Needs.{needs}
@@ -17,12 +17,15 @@ use Rattle.simulation.proofs.tick.Tie as tie
 advance-requires : tie.Need-advance-requires
 advance-requires c κs = search needs
 
+element-copy-out-first : tie.Need-element-copy-out-first
+element-copy-out-first c = search needs
+
 returns : tie.Need-returns
 returns c =
     let a = c .before .before .before .advance in
     let start = c .before .before .before .before in
     let s = start .args .simulation in
-    let is = one-tick s (a .result) (a .ensures) in
+    let is = one-tick _ s (a .result) (a .ensures) in
     let ran = one-run s ∙ ap asRun (sym is) in (
       is,
       tick-account s _ is,
@@ -33,4 +36,4 @@ returns c =
     )
 
 pub tick-spec : {M : Type 1} → statement M
-tick-spec = tie.close (tie.spec advance-requires returns)
+tick-spec = tie.close (tie.spec advance-requires element-copy-out-first returns)

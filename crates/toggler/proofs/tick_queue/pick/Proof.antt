@@ -5,19 +5,19 @@ use native.Mathlib.Omega.{arith}
 use borrow.Author.Needs.{needs}
 use lib.ListN.{length, drop}
 use Rattle.toggler.specs.Queue.{pickFrom, pickOf}
-use Rattle.toggler.proofs.Pick.{takes, keeps, finished}
+use Rattle.toggler.proofs.Pick.{takes, keeps, none-past, finished}
 use Rattle.toggler.proofs.tick_queue.pick.Statement.{statement}
 use Rattle.toggler.proofs.tick_queue.pick.Tie as tie
 
 abbrev Inv-loop : tie.InvT-loop
-Inv-loop queue best₀ part₀ i₀ best part i = (i ≤ 35) × (pickFrom (drop i queue) i (record { time = best; part = part }) ≡ pickOf queue)
+Inv-loop queue best₀ part₀ i₀ best part i = pickFrom (drop i queue) i (record { time = best; part = part }) ≡ pickOf queue
 
 abbrev μ-loop : tie.MeasureT-loop
 μ-loop queue best₀ part₀ i₀ best part i = 35 - i
 
 loop-holds : tie.Need-loop-holds Inv-loop μ-loop
 unfolding pickOf
-loop-holds c = (omega arith, refl)
+loop-holds c = refl
 
 mul-q : tie.Need-mul-q Inv-loop μ-loop
 mul-q c = search needs
@@ -40,7 +40,7 @@ loop-again c =
     let S = c .before .is-sooner in
     let full : length (c .before .before .before .before .before .args .t1) ≡ 35 = c .before .before .before .before .before .good .0 .1 .0 .1 in
     let below : L .i < length (c .before .before .before .before .before .args .t1) = omega (arith, full, c .before .before .before .loop-test .taken) in
-    (omega (arith, c .before .before .before .loop-test .taken), takes _ (L .best) (L .part) (L .i) below (sym (S .ensures) ∙ c .if1 .taken) ∙ L .inv .1)
+    takes _ (L .best) (L .part) (L .i) below (sym (S .ensures) ∙ c .if1 .taken) ∙ L .inv
 
 add-i-2 : tie.Need-add-i-2 Inv-loop μ-loop
 add-i-2 c = search needs
@@ -54,13 +54,15 @@ loop-again-2 c =
     let S = c .before .is-sooner in
     let full : length (c .before .before .before .before .before .args .t1) ≡ 35 = c .before .before .before .before .before .good .0 .1 .0 .1 in
     let below : L .i < length (c .before .before .before .before .before .args .t1) = omega (arith, full, c .before .before .before .loop-test .taken) in
-    (omega (arith, c .before .before .before .loop-test .taken), keeps _ (L .best) (L .part) (L .i) below (sym (S .ensures) ∙ c .if1 .left) ∙ L .inv .1)
+    keeps _ (L .best) (L .part) (L .i) below (sym (S .ensures) ∙ c .if1 .left) ∙ L .inv
 
 returns : tie.Need-returns Inv-loop μ-loop
 returns c =
     let L = c .before .loop in
-    let full : length (c .before .before .args .t1) ≡ 35 = c .before .before .good .0 .1 .0 .1 in
-    finished _ (L .i) _ (omega (arith, full, c .loop-test .left)) (omega (arith, full, L .inv .0)) ∙ L .inv .1
+    let queue = c .before .before .args .t1 in
+    let full : length queue ≡ 35 = c .before .before .good .0 .1 .0 .1 in
+    let past : length queue ≤ L .i = omega (arith, full, c .loop-test .left) in
+    finished queue (L .i) _ (none-past queue (L .i) past) ∙ L .inv
 
 pub pick-spec : {M : Type 1} → statement M
 pick-spec =
