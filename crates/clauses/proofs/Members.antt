@@ -24,9 +24,9 @@ use Rattle.toggler.specs.declared.toggler.Toggler.{Toggler}
 use Rattle.toggler.specs.declared.tick_queue.Queued.{Queued}
 use Rattle.toggler.specs.Queue.{noQueued}
 use Rattle.remy.specs.declared.simulation.Next.{Next}
-use Rattle.remy.specs.State.{noLine, noSender, noToggler, noMeter}
+use Rattle.remy.specs.State.{roleOf, noLine, noSender, noToggler, noMeter}
 use Rattle.ranges.proofs.UpTo.{up-goes, up-stops, up-done, up-same}
-use Rattle.clauses.specs.Tests.{sentTest, packetTest, lineOf, linesOf, Counts, Added, senderTest, sendersTest, LinkTimes, placeTest, emptyTest, partTime, placesTest}
+use Rattle.clauses.specs.Tests.{sentTest, packetTest, lineOf, linesOf, Counts, Added, senderTest, sendersTest, LinkTimes, placeTest, emptyTest, seatOf, seatTime, roleTime, partTime, placesTest}
 
 -- ---- packets
 
@@ -138,6 +138,14 @@ module _ (queue : List Queued) where
   pub empty-done : (n k : ℕ) → emptyTest k queue ≡ true → k ≤ n → n ≤ k → true ≡ emptyTest n queue
   unfolding emptyTest
   empty-done n k e h g = up-done _ n k e h g
+
+module _ (count : ℕ) (back : Bool) (links : List Queued) (clock : Time) (senders : List LossySender) (togglers : List Toggler) where
+  -- the own next time of part k, with the sender and the toggler of its number i
+  pub part-seated : (k i : ℕ) → ((b : Bool) → i ≡ seatOf (roleOf count b k)) → (own : OptionTime)
+      → own ≡ seatTime links clock (getD senders i noSender) (getD togglers i noToggler) (roleOf count back k) → own ≡ partTime count back links clock senders togglers k
+  unfolding partTime roleTime
+  part-seated k i e own o =
+      o ∙ ap (λ (j : ℕ). seatTime links clock (getD senders j noSender) (getD togglers j noToggler) (roleOf count back k)) (e back)
 
 module _ (count : ℕ) (back : Bool) (links : List Queued) (clock : Time) (senders : List LossySender) (togglers : List Toggler) (queue : List Queued) (next : Next) where
   pub places-none : placesTest count back links clock senders togglers 0 queue next ≡ true

@@ -177,13 +177,25 @@ linkTime lines onLine clock l =
 pub record LinkTimes (of : ℕ → OptionTime) (count : ℕ) (times : List Queued) : Type 0 where
   pub each : (l : ℕ) → l < count → getD times l noQueued .time ≡ of l
 
--- a part's own next time
+-- the number of the sender or of the toggler that a part is; 0 for any other part
+abbrev pub seatOf : Role → ℕ
+seatOf (link l) = 0
+seatOf bouncer = 0
+seatOf (sender i) = i
+seatOf (toggler i) = i
+seatOf nobody = 0
+
+-- a part's own next time, where the sender and the toggler are those of its number; and the same among all of them
+abbrev pub seatTime : List Queued → Time → LossySender → Toggler → Role → OptionTime
+seatTime links clock s t (link l) = getD links l noQueued .time
+seatTime links clock s t bouncer = None
+seatTime links clock s t (sender i) = senderNext s clock
+seatTime links clock s t (toggler i) = Some (t .«next_toggle»)
+seatTime links clock s t nobody = None
+
 unfoldable pub roleTime : List Queued → Time → List LossySender → List Toggler → Role → OptionTime
-roleTime links clock senders togglers (link l) = getD links l noQueued .time
-roleTime links clock senders togglers bouncer = None
-roleTime links clock senders togglers (sender i) = senderNext (getD senders i noSender) clock
-roleTime links clock senders togglers (toggler i) = Some (getD togglers i noToggler .«next_toggle»)
-roleTime links clock senders togglers nobody = None
+roleTime links clock senders togglers role =
+    seatTime links clock (getD senders (seatOf role) noSender) (getD togglers (seatOf role) noToggler) role
 
 -- a queued time is held and not below the clock
 unfoldable pub queuedTest : Time → OptionTime → Bool

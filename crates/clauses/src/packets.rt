@@ -1,4 +1,5 @@
 ghost use mathlib.Core.Path.{_≡_};
+ghost use mathlib.Core.Bool.{_&&_};
 ghost use Prim.Native.Nat.{_≤_, _<_};
 ghost use Rattle.ranges.specs.Frame.{InRings, AllInRings};
 ghost use Rattle.clauses.specs.Tests.{AtMost, sentTest, waitingTest, onLineTest, dueTest, linePacketsTest, packetsTest, soonTest, soonOnTest};
@@ -77,7 +78,8 @@ fn waiting_fit(
     contains.0 == sum
 }
 
-// Whether each packet on line l is fit.
+// Whether each packet on line l is fit, and no due time is below the one before it. Two walks in one
+// function, as a function that reads packets by place copies all that there are.
 fn on_line_fit(
     senders: [LossySender; 16],
     n: u32,
@@ -87,7 +89,7 @@ fn on_line_fit(
     ring: Ring,
 ) -> bool
     requires { ⌜ (n ≤ 16) × (l < 2) × (ring .start < 512) × (ring .count ≤ 512) ⌝ }
-    ensures { λ r. ⌜ r ≡ onLineTest senders n clock «on_line» l ring ⌝ }
+    ensures { λ r. ⌜ r ≡ (onLineTest senders n clock «on_line» l ring && dueTest «on_line» l ring) ⌝ }
 {
     let base = 512 * l;
     let start = ring.start;
@@ -110,25 +112,14 @@ fn on_line_fit(
         }
         i += 1;
     }
-    true
-}
-
-// Whether no due time on line l is below the one before it.
-fn due_fit(on_line: [Transit; 1024], l: usize, ring: Ring) -> bool
-    requires { ⌜ (l < 2) × (ring .start < 512) × (ring .count ≤ 512) ⌝ }
-    ensures { λ r. ⌜ r ≡ dueTest «on_line» l ring ⌝ }
-{
-    let base = 512 * l;
-    let start = ring.start;
-    let count = ring.count;
-    let mut i = 0;
-    while i + 1 < count {
-        let first = on_line[base + (start + i) % 512];
-        let second = on_line[base + (start + i + 1) % 512];
+    let mut j = 0;
+    while j + 1 < count {
+        let first = on_line[base + (start + j) % 512];
+        let second = on_line[base + (start + j + 1) % 512];
         let a = first.due;
         let b = second.due;
         if a.0.0 <= b.0.0 {
-            i += 1;
+            j += 1;
         } else {
             return false;
         }
@@ -157,10 +148,7 @@ fn line_packets_fit(
     if !waiting_fit(senders, sizes, n, clock, waiting, l, waits, contains) {
         return false;
     }
-    if !on_line_fit(senders, n, clock, on_line, l, moves) {
-        return false;
-    }
-    due_fit(on_line, l, moves)
+    on_line_fit(senders, n, clock, on_line, l, moves)
 }
 
 // Whether the packets of the first so many lines are fit.

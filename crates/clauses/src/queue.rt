@@ -1,12 +1,10 @@
 ghost use mathlib.Core.Path.{_≡_};
-ghost use Prim.Native.Nat.{_≤_};
+ghost use mathlib.Core.Bool.{Bool};
+ghost use Prim.Native.Nat.{_≤_, _<_};
+ghost use Rattle.remy.specs.State.{roleOf};
 ghost use Rattle.remy.specs.Fit.{isNext, sameTime};
-ghost use Rattle.ranges.specs.Frame.{AllInRings};
-ghost use Rattle.clauses.specs.Tests.{linkTime, LinkTimes, queuedTest, placeTest, emptyTest, partTime, nextTest, placesTest, queueTest};
+ghost use Rattle.clauses.specs.Tests.{queuedTest, placeTest, emptyTest, seatOf, seatTime, nextTest, placesTest, queueTest};
 use crate::senders::is_on;
-use link::Line;
-use link::Transit;
-use link::next_tick;
 use quantities::OptionTime;
 use quantities::Time;
 use ranges::frame::time_held;
@@ -15,52 +13,36 @@ use sender::LossySender;
 use toggler::Queued;
 use toggler::Toggler;
 
-// The own next times of the links of the first so many lines, as they are queued.
-//
-// A helper for `fitness`, and no entry point: `is_fit` has tested the rings.
-pub fn link_times(
-    lines: [Line; 2],
-    on_line: [Transit; 1024],
-    clock: Time,
-    count: usize,
-) -> [Queued; 2]
-    requires { ⌜ (count ≤ 2) × AllInRings lines count ⌝ }
-    ensures { λ r. ⌜ LinkTimes (linkTime lines «on_line» clock) count r ⌝ }
-{
-    let empty = Queued {
-        time: OptionTime::None,
-    };
-    let mut times = [empty; 2];
-    let mut l = 0;
-    while l < count {
-        let line = lines[l];
-        let ring = line.on_line;
-        let front = on_line[512 * l + ring.start];
-        let due = front.due;
-        let time = next_tick(line, clock, due);
-        let own = Queued { time };
-        times[l] = own;
-        l += 1;
-    }
-    times
-}
-
-// The own next time of part k, among n senders and with a return line or without; `links` has those of
-// the links.
+// The number of the sender or of the toggler that part k is, among n senders; 0 for any other part.
 //
 // A helper, and no entry point, as are the others here with a `requires`: the caller shows that there
 // are at most 16 senders.
+fn seat(n: u32, k: usize) -> usize
+    requires { ⌜ n ≤ 16 ⌝ }
+    ensures { λ r. ⌜ (r < 16) × ((back : Bool) → r ≡ seatOf (roleOf n back k)) ⌝ }
+{
+    if k == 0 {
+        return 0;
+    }
+    let i = (k - 1) / 2;
+    if i < n as usize {
+        return i;
+    }
+    0
+}
+
+// The own next time of part k, among n senders and with a return line or without; `links` has those of
+// the links, and `sender` and `toggler` are those of the part's number.
 fn part_time(
     n: u32,
     back: bool,
     links: [Queued; 2],
     clock: Time,
-    senders: [LossySender; 16],
-    togglers: [Toggler; 16],
+    sender: LossySender,
+    toggler: Toggler,
     k: usize,
 ) -> OptionTime
-    requires { ⌜ n ≤ 16 ⌝ }
-    ensures { λ r. ⌜ r ≡ partTime n back links clock senders togglers k ⌝ }
+    ensures { λ r. ⌜ r ≡ seatTime links clock sender toggler (roleOf n back k) ⌝ }
 {
     if k == 0 {
         let link = links[0];
@@ -69,10 +51,8 @@ fn part_time(
     let i = (k - 1) / 2;
     if i < n as usize {
         if k % 2 == 1 {
-            let sender = senders[i];
             return sender.next_tick(clock);
         }
-        let toggler = togglers[i];
         let next = toggler.next_toggle;
         return OptionTime::Some(next);
     }
@@ -176,7 +156,10 @@ fn next_fit(
     match next {
         Next::None => is_empty(queue),
         Next::Part(j) => {
-            let own = part_time(n, back, links, clock, senders, togglers, j);
+            let i = seat(n, j);
+            let sender = senders[i];
+            let toggler = togglers[i];
+            let own = part_time(n, back, links, clock, sender, toggler, j);
             same_time(OptionTime::Some(clock), own)
         }
     }
@@ -200,7 +183,10 @@ fn places_fit(
     while k < 35 {
         let queued = queue[k];
         let time = queued.time;
-        let own = part_time(n, back, links, clock, senders, togglers, k);
+        let i = seat(n, k);
+        let sender = senders[i];
+        let toggler = togglers[i];
+        let own = part_time(n, back, links, clock, sender, toggler, k);
         if !place_fit(next, clock, k, time, own) {
             return false;
         }

@@ -2,7 +2,6 @@ ghost use mathlib.Core.Path.{_≡_};
 ghost use Rattle.remy.specs.Fit.{fit};
 use clauses::counts::under_way;
 use clauses::packets::packets_fit;
-use clauses::queue::link_times;
 use clauses::queue::queue_fit;
 use clauses::senders::senders_fit;
 use ranges::frame::frame_fit;
@@ -34,11 +33,12 @@ pub fn is_fit(simulation: Simulation) -> bool
     let policy = network.policy;
     let togglers = simulation.togglers;
     let meters = simulation.meters;
-    let each = under_way(waiting, on_line, lines, count);
+    let found = under_way(waiting, on_line, lines, clock, count);
+    let each = found.counts;
     if !senders_fit(policy, sizes, clock, each, n, senders, togglers, meters) {
         return false;
     }
-    let links = link_times(lines, on_line, clock, count);
+    let links = found.links;
     let returns = has_back(back);
     let queue = simulation.queue;
     let next = head.next;

@@ -1,5 +1,6 @@
 -- The invariant of each loop: what is counted after so many packets, beside what was counted before it. The measures are what is left. Assumes nothing.
 use Prim.Native.Nat.{ℕ, _+_, _*_, _-_, _≤_}
+use mathlib.Core.Path.{refl}
 use native.Mathlib.Omega.{arith}
 use borrow.Author.Needs.{needs}
 use Rattle.remy.specs.State.{noWaiting, noTransit}
@@ -155,13 +156,25 @@ loop2-again-2 c =
     let more = c .before .before .before .before .loop2-test .taken in
     (omega (arith, more), counted-other _ noTransit _ _ _ _ _ _ (L .counts) (L .j) (L .inv .1) more (c .if2 .left))
 
+mul-front : tie.Need-mul-front Inv-loop μ-loop Inv-loop2 μ-loop2
+mul-front c = search needs
+
+add-front : tie.Need-add-front Inv-loop μ-loop Inv-loop2 μ-loop2
+add-front c = search needs
+
+array-copy-out-front : tie.Need-array-copy-out-front Inv-loop μ-loop Inv-loop2 μ-loop2
+array-copy-out-front c = search needs
+
 returns : tie.Need-returns Inv-loop μ-loop Inv-loop2 μ-loop2
 unfolding lineOf
 returns c =
-    let L = c .before .loop2 in
-    added-both _ _ _ (c .before .before .before .before .before .before .args .first) (c .before .before .before .loop .counts) (L .counts) (waits-of (c .before .before .before .before .before .before)) _ (waiting-counted (c .before .before))
-    (counted-all _ noTransit _ _ _ _ _ _ (L .counts) (L .j) (L .inv .1) (omega (arith, L .inv .0, c .before .before .before .before .before .before .pre .2 .mcount)) (c .loop2-test .left))
-    (omega arith)
+    let p = c .before in
+    let L = p .before .loop2 in (
+      added-both _ _ _ (p .before .before .before .before .before .before .args .first) (p .before .before .before .loop .counts) (L .counts) (waits-of (p .before .before .before .before .before .before)) _ (waiting-counted (p .before .before))
+          (counted-all _ noTransit _ _ _ _ _ _ (L .counts) (L .j) (L .inv .1) (omega (arith, L .inv .0, p .before .before .before .before .before .before .pre .2 .mcount)) (p .loop2-test .left))
+          (omega arith),
+      refl,
+    )
 
 pub line-counts-spec : {M : Type 1} → statement M
 line-counts-spec =
@@ -206,4 +219,7 @@ line-counts-spec =
     add-j-2
     loop2-less-2
     loop2-again-2
+    add-front
+    mul-front
+    array-copy-out-front
     returns)

@@ -17,18 +17,7 @@ on-line-fit-requires c κs = search needs
 
 returns-2 : tie.Need-returns-2
 unfolding linePacketsTest
-returns-2 c = rw (passed (c .before .before .before .waiting-fit .ensures) (c .before .before .if1 .left), failed (c .before .on-line-fit .ensures) (c .if2 .taken))
-
-due-fit-requires : tie.Need-due-fit-requires
-due-fit-requires c κs = search needs
-
-returns-3 : tie.Need-returns-3
-unfolding linePacketsTest
-returns-3 c = rw (
-  c .due-fit .ensures,
-  passed (c .before .before .before .before .waiting-fit .ensures) (c .before .before .before .if1 .left),
-  passed (c .before .before .on-line-fit .ensures) (c .before .if2 .left),
-)
+returns-2 c = rw (c .on-line-fit .ensures, passed (c .before .before .waiting-fit .ensures) (c .before .if1 .left))
 
 pub line-packets-fit-spec : {M : Type 1} → statement M
 line-packets-fit-spec =
@@ -37,6 +26,4 @@ line-packets-fit-spec =
     waiting-fit-requires
     returns
     on-line-fit-requires
-    returns-2
-    due-fit-requires
-    returns-3)
+    returns-2)

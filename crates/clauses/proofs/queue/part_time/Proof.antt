@@ -2,7 +2,6 @@
 use borrow.Author.Tests.{eq-eqb, le-ltb, lt-ltb, ne-eqb, not-true, not-false}
 use borrow.Author.Needs.{needs}
 use Rattle.remy.specs.State.{roleOf}
-use Rattle.clauses.specs.Tests.{partTime, roleTime}
 use Rattle.clauses.proofs.queue.part_time.Statement.{statement}
 use Rattle.clauses.proofs.queue.part_time.Tie as tie
 
@@ -10,46 +9,34 @@ array-copy-out-link : tie.Need-array-copy-out-link
 array-copy-out-link c = search needs
 
 returns : tie.Need-returns
-unfolding partTime roleTime roleOf
+unfolding roleOf
 returns c = rw (eq-eqb _ _ (c .before .if1 .taken))
 
 sub-i : tie.Need-sub-i
 sub-i c = search needs
 
-mul-sender : tie.Need-mul-sender
-mul-sender c = search needs
-
-array-copy-out-sender : tie.Need-array-copy-out-sender
-array-copy-out-sender c = search needs
-
 next-tick-requires : tie.Need-next-tick-requires
 next-tick-requires c κs = search needs
 
 returns-2 : tie.Need-returns-2
-unfolding partTime roleTime roleOf
+unfolding roleOf
 returns-2 c = rw (
   c .next-tick .ensures,
-  ne-eqb _ _ (c .before .before .before .before .if1 .left),
-  lt-ltb _ _ (c .before .before .before .if2 .taken),
-  eq-eqb _ _ (c .before .before .if3 .taken),
+  ne-eqb _ _ (c .before .before .before .if1 .left),
+  lt-ltb _ _ (c .before .before .if2 .taken),
+  eq-eqb _ _ (c .before .if3 .taken),
 )
 
-mul-toggler : tie.Need-mul-toggler
-mul-toggler c = search needs
-
-array-copy-out-toggler : tie.Need-array-copy-out-toggler
-array-copy-out-toggler c = search needs
-
 returns-3 : tie.Need-returns-3
-unfolding partTime roleTime roleOf
+unfolding roleOf
 returns-3 c = rw (
-  ne-eqb _ _ (c .before .before .before .before .if1 .left),
-  lt-ltb _ _ (c .before .before .before .if2 .taken),
-  ne-eqb _ _ (c .before .before .if3 .left),
+  ne-eqb _ _ (c .before .before .before .if1 .left),
+  lt-ltb _ _ (c .before .before .if2 .taken),
+  ne-eqb _ _ (c .before .if3 .left),
 )
 
 returns-4 : tie.Need-returns-4
-unfolding partTime roleTime roleOf
+unfolding roleOf
 returns-4 c = rw (
   ne-eqb _ _ (c .before .before .if1 .left),
   le-ltb _ _ (c .before .if2 .left),
@@ -57,7 +44,7 @@ returns-4 c = rw (
 )
 
 returns-5 : tie.Need-returns-5
-unfolding partTime roleTime roleOf
+unfolding roleOf
 returns-5 c = rw (
   ne-eqb _ _ (c .before .before .before .if1 .left),
   le-ltb _ _ (c .before .before .if2 .left),
@@ -66,7 +53,7 @@ returns-5 c = rw (
 )
 
 returns-6 : tie.Need-returns-6
-unfolding partTime roleTime roleOf
+unfolding roleOf
 returns-6 c = rw (
   ne-eqb _ _ (c .before .before .before .before .if1 .left),
   le-ltb _ _ (c .before .before .before .if2 .left),
@@ -79,7 +66,7 @@ array-copy-out-link-2 : tie.Need-array-copy-out-link-2
 array-copy-out-link-2 c = search needs
 
 returns-7 : tie.Need-returns-7
-unfolding partTime roleTime roleOf
+unfolding roleOf
 returns-7 c = rw (
   ne-eqb _ _ (c .before .before .before .before .before .if1 .left),
   le-ltb _ _ (c .before .before .before .before .if2 .left),
@@ -95,12 +82,8 @@ part-time-spec =
     array-copy-out-link
     returns
     sub-i
-    mul-sender
-    array-copy-out-sender
     next-tick-requires
     returns-2
-    mul-toggler
-    array-copy-out-toggler
     returns-3
     returns-4
     returns-5

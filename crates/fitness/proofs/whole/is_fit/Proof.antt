@@ -20,7 +20,7 @@ abbrev state-2 : tie.Else2 → Simulation
 state-2 p = state-1 (p .before .before .before .before .before .before .before .before)
 
 abbrev state-3 : tie.After-senders-fit → Simulation
-state-3 p = state-2 (p .before .before .before .before)
+state-3 p = state-2 (p .before .before .before .before .before)
 
 -- ---- they passed
 
@@ -42,7 +42,7 @@ passed-packets p = passed (tested (p .before)) (p .if2 .left)
 
 counted : (p : tie.After-senders-fit) → p .senders-fit .result ≡ senders (state-3 p)
 counted p =
-    by-counts (state-3 p) (p .before .before .before .before .before .before .before .before .before .before .before .line-count .result) (p .before .before .before .before .before .before .before .before .before .before .before .line-count .ensures) (framed (p .before .before .before .before .before .before .before .before .before .before .before .before) .few) (p .before .under-way .result) (p .before .under-way .ensures)
+    by-counts (state-3 p) (p .before .before .before .before .before .before .before .before .before .before .before .before .line-count .result) (p .before .before .before .before .before .before .before .before .before .before .before .before .line-count .ensures) (framed (p .before .before .before .before .before .before .before .before .before .before .before .before .before) .few) (p .before .before .under-way .result .counts) (p .before .before .under-way .ensures .0)
     (p .senders-fit .result) (p .senders-fit .ensures)
 
 -- ---- the needs
@@ -70,28 +70,25 @@ under-way-requires c κs = rings (c .before .before .before .before .before .bef
 
 senders-fit-requires : tie.Need-senders-fit-requires
 senders-fit-requires c κs =
-    let f = framed (c .before .before .before .before .before .before .before .before .before .before .before) in
-    (f .few, record { each = f .small }, c .under-way .ensures .most)
+    let f = framed (c .before .before .before .before .before .before .before .before .before .before .before .before) in
+    (f .few, record { each = f .small }, c .before .under-way .ensures .0 .most)
 
 returns-3 : tie.Need-returns-3
 returns-3 c =
-    let p = c .before .before .before .before .before in
+    let p = c .before .before .before .before .before .before in
     stops-senders (state-2 p) (passed-frame (p .before .before .before .before .before .before .before .before)) (passed-packets p) (failed (counted (c .before)) (c .if3 .taken))
-
-link-times-requires : tie.Need-link-times-requires
-link-times-requires c κs = rings (c .before .before .before .before .before .before .before .before .before .before .before .before)
 
 has-back-requires : tie.Need-has-back-requires
 has-back-requires c κs = search needs
 
 queue-fit-requires : tie.Need-queue-fit-requires
-queue-fit-requires c κs = framed (c .before .before .before .before .before .before .before .before .before .before .before .before .before .before .before .before) .few
+queue-fit-requires c κs = framed (c .before .before .before .before .before .before .before .before .before .before .before .before .before .before .before .before .before) .few
 
 returns-4 : tie.Need-returns-4
 returns-4 c =
-    let p = c .before .before .before .before .before .before .before .before .before in
+    let p = c .before .before .before .before .before .before .before .before .before .before in
     ends-queue (state-2 p) (passed-frame (p .before .before .before .before .before .before .before .before)) (passed-packets p) (passed (counted (c .before .before .before .before .before)) (c .before .before .before .before .if3 .left)) (c .queue-fit .result)
-    (by-links (state-2 p) (c .before .before .before .before .before .before .before .before .before .before .before .before .before .before .before .before .line-count .result) (c .before .before .before .before .before .before .before .before .before .before .before .before .before .before .before .before .line-count .ensures) (c .before .before .before .link-times .result) (c .before .before .before .link-times .ensures) (c .before .before .has-back .result)
+    (by-links (state-2 p) (c .before .before .before .before .before .before .before .before .before .before .before .before .before .before .before .before .before .line-count .result) (c .before .before .before .before .before .before .before .before .before .before .before .before .before .before .before .before .before .line-count .ensures) (c .before .before .before .before .before .before .before .under-way .result .links) (c .before .before .before .before .before .before .before .under-way .ensures .1) (c .before .before .has-back .result)
     (c .before .before .has-back .ensures) (c .queue-fit .result) (c .queue-fit .ensures))
 
 pub is-fit-spec : {M : Type 1} → statement M
@@ -106,7 +103,6 @@ is-fit-spec =
     under-way-requires
     senders-fit-requires
     returns-3
-    link-times-requires
     has-back-requires
     queue-fit-requires
     returns-4)
