@@ -109,27 +109,22 @@ lower-all {b} {d = d} {at = at} {i = i} {rest = rest} p h =
     p .bytes ∙ ap (λ (k : ℕ). written d k (p .put)) place ∙ ap (written d at) (ap (λ (j : ℕ). digitsOf b j rest ++ p .put) (sym zero-left) ∙ p .whole)
 
 -- a whole number of 32 bits has at most 10 digits
-pub wrote-short : (key : List ℕ) (n : ℕ) {m at next : ℕ} {d after : List ℕ} → n < 10 ^ 10 → Wrote m (key ++ decimalOf n) d at next after
-    → Wrote (length key + 10) (key ++ decimalOf n) d at next after
-wrote-short key n h w = record {
-  small = omega (arith, length-append key (decimalOf n), decimal-length-le 9 n h);
-  place = w .place;
-  bytes = w .bytes;
-}
+pub wrote-short : (n : ℕ) {m at next : ℕ} {d after : List ℕ} → n < 10 ^ 10 → Wrote m (decimalOf n) d at next after → Wrote 10 (decimalOf n) d at next after
+wrote-short n h w = record { small = decimal-length-le 9 n h; place = w .place; bytes = w .bytes }
 
 -- what a line's function answers: without room, and with room for its bytes
 module _ (line d : List ℕ) (at : ℕ) where
   pub put-full : length d < at + 128 → PutIs line d at P.Full d
-  put-full h = record { answer = rw (lt-leb _ _ h); bytes = rw (lt-leb _ _ h) }
+  put-full h = record { answer = rw (lt-leb _ _ h); bytes = rw (lt-leb _ _ h); short = λ room. absurd (omega (arith, room)) }
 
-  pub put-done : {most next : ℕ} {after : List ℕ} → at + 128 ≤ length d → Wrote most line d at next after → PutIs line d at (P.At next) after
-  put-done h w = record { answer = rw (le-leb _ _ h) (ap P.At (w .place)); bytes = rw (le-leb _ _ h) (w .bytes) }
+  pub put-done : {most next : ℕ} {after : List ℕ} → at + 128 ≤ length d → most ≤ 128 → Wrote most line d at next after → PutIs line d at (P.At next) after
+  put-done h m w = record { answer = rw (le-leb _ _ h) (ap P.At (w .place)); bytes = rw (le-leb _ _ h) (w .bytes); short = λ room. omega (arith, w .small) }
 
 -- a line of five parts and its end
 pub put-five : {m₁ m₂ m₃ m₄ m₅ k : ℕ} {s₁ s₂ s₃ s₄ s₅ t d d₁ d₂ d₃ d₄ d₅ after : List ℕ} {at a b c e f last : ℕ} → at + 128 ≤ length d
-    → m₁ + m₂ + m₃ + m₄ + m₅ ≤ 128
+    → m₁ + m₂ + m₃ + m₄ + m₅ + k ≤ 128
     → Wrote m₁ s₁ d at a d₁ → Wrote m₂ s₂ d₁ a b d₂ → Wrote m₃ s₃ d₂ b c d₃ → Wrote m₄ s₄ d₃ c e d₄ → Wrote m₅ s₅ d₄ e f d₅ → Wrote k t d₅ f last after
     → PutIs (s₁ ++ s₂ ++ s₃ ++ s₄ ++ s₅ ++ t) d at (P.At last) after
 put-five h l w₁ w₂ w₃ w₄ w₅ w =
-    put-done _ _ _ h
+    put-done _ _ _ h l
     (wrote-then (wrote-then (wrote-then (wrote-then (wrote-then w₁ w₂ (omega arith)) w₃ (omega arith)) w₄ (omega arith)) w₅ (omega arith)) w (omega arith))

@@ -1,2 +1,3 @@
 mod Buffer
+mod Digits
 mod Examples

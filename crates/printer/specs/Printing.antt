@@ -57,10 +57,11 @@ flowText flow sent counted rate rtt =
 unfoldable pub written : List ℕ → ℕ → List ℕ → List ℕ
 written out at s = take at out ++ s ++ drop (at + length s) out
 
--- a line is put where room for 128 bytes is left, which no line exceeds; else out is left as it was
+-- a line is put where room for 128 bytes is left, which it does not exceed; else out is left as it was
 pub record PutIs (line out : List ℕ) (at : ℕ) (r : Put) (after : List ℕ) : Type 0 where
   pub answer : r ≡ cond (leb (at + 128) (length out)) (P.At (at + length line)) P.Full
   pub bytes : after ≡ cond (leb (at + 128) (length out)) (written out at line) out
+  pub short : at + 128 ≤ length out → length line ≤ 128
 
 -- the bytes s, no more than most, were put from the position at, and next is the position after them
 pub record Wrote (most : ℕ) (s out : List ℕ) (at next : ℕ) (after : List ℕ) : Type 0 where

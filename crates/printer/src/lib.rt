@@ -3,7 +3,7 @@ ghost use Prim.Native.Nat.{_+_, _-_, _≤_, _<_};
 ghost use mathlib.Core.Path.{_≡_};
 ghost use mathlib.Core.List.{[], _∷_, _++_};
 ghost use lib.ListN.{length};
-ghost use Rattle.notation.specs.Notation.{digitByte, digitsOf, hexOf, decimalOf};
+ghost use Rattle.notation.specs.Notation.{digitsOf, hexOf, decimalOf};
 ghost use Rattle.printer.specs.Printing.{Wrote, PutIs, packetText, measuredText, recordText, stopText, refusedText, flowText};
 
 // The position after the line, or too little room.
@@ -48,26 +48,19 @@ fn put_word(out: &mut [u8], at: usize, w: &[u8]) -> usize
     next
 }
 
-// A digit as a byte.
-fn digit_byte(d: u64) -> u8
-    requires { ⌜ d < 16 ⌝ }
-    ensures { λ r. ⌜ r ≡ digitByte d ⌝ }
-{
-    if d < 10 { 48 + d as u8 } else { 87 + d as u8 }
-}
-
-// The last k digits of n, the lowest first.
+// The last k digits of n, the lowest first. Each call has a literal base, so that the compiler leaves no division.
 fn put_digits(out: &mut [u8], at: usize, base: u64, k: usize, n: u64) -> usize
     requires { ⌜ (0 < base) × (base ≤ 16) × (at + k ≤ length (now out)) ⌝ }
     ensures { λ r. ⌜ Wrote (k) (digitsOf base k n) (now (out .entry)) at r (now (out .exit)) ⌝ }
 {
+    let digits = b"0123456789abcdef";
     let mut i = k;
     let mut rest = n;
     while 0 < i {
         i -= 1;
-        let b = digit_byte(rest % base);
+        let d = (rest % base) as usize;
         let p = at + i;
-        out[p] = b;
+        out[p] = digits[d];
         rest /= base;
     }
     at + k
@@ -86,23 +79,67 @@ fn decimal_digits(n: u64) -> usize
     k
 }
 
-// A word and a double.
-fn put_hex(out: &mut [u8], at: usize, key: &[u8], v: u64) -> usize
-    requires { ⌜ at + (length (now key) + 16) ≤ length (now out) ⌝ }
-    ensures { λ r. ⌜ Wrote (length (now (key .entry)) + 16) (now (key .entry) ++ hexOf v) (now (out .entry)) at r (now (out .exit)) ⌝ }
+// A double.
+fn put_hex(out: &mut [u8], at: usize, v: u64) -> usize
+    requires { ⌜ at + 16 ≤ length (now out) ⌝ }
+    ensures { λ r. ⌜ Wrote (16) (hexOf v) (now (out .entry)) at r (now (out .exit)) ⌝ }
 {
-    let next = put_word(out, at, key);
-    put_digits(out, next, 16, 16, v)
+    put_digits(out, at, 16, 16, v)
 }
 
-// A word and a whole number, of at most 20 digits.
+// Two decimal digits.
+fn put_two(out: &mut [u8], at: usize, n: u64) -> usize
+    requires { ⌜ (n < 100) × (at + 2 ≤ length (now out)) ⌝ }
+    ensures { λ r. ⌜ Wrote (2) (digitsOf 10 2 n) (now (out .entry)) at r (now (out .exit)) ⌝ }
+{
+    let next = put_byte(out, at, 48 + (n / 10) as u8);
+    put_byte(out, next, 48 + (n % 10) as u8)
+}
+
+// A whole number of at most 4 digits.
+fn put_short(out: &mut [u8], at: usize, n: u64) -> usize
+    requires { ⌜ (n < 10000) × (at + 4 ≤ length (now out)) ⌝ }
+    ensures { λ r. ⌜ Wrote (4) (decimalOf n) (now (out .entry)) at r (now (out .exit)) ⌝ }
+{
+    if n < 10 {
+        return put_byte(out, at, 48 + n as u8);
+    }
+    if n < 100 {
+        return put_two(out, at, n);
+    }
+    if n < 1000 {
+        let next = put_byte(out, at, 48 + (n / 100) as u8);
+        return put_two(out, next, n % 100);
+    }
+    let next = put_two(out, at, n / 100);
+    put_two(out, next, n % 100)
+}
+
+// A whole number, of at most 20 digits: one of 5 to 8 digits in three pieces, a longer one by the loop.
+fn put_number(out: &mut [u8], at: usize, n: u64) -> usize
+    requires { ⌜ at + 20 ≤ length (now out) ⌝ }
+    ensures { λ r. ⌜ Wrote (20) (decimalOf n) (now (out .entry)) at r (now (out .exit)) ⌝ }
+{
+    if n < 10000 {
+        return put_short(out, at, n);
+    }
+    if n < 100000000 {
+        let high = n / 100;
+        let a = put_short(out, at, high / 100);
+        let b = put_two(out, a, high % 100);
+        return put_two(out, b, n % 100);
+    }
+    let k = decimal_digits(n);
+    put_digits(out, at, 10, k, n)
+}
+
+// A word and a whole number.
 fn put_decimal(out: &mut [u8], at: usize, key: &[u8], n: u64) -> usize
     requires { ⌜ at + (length (now key) + 20) ≤ length (now out) ⌝ }
     ensures { λ r. ⌜ Wrote (length (now (key .entry)) + 20) (now (key .entry) ++ decimalOf n) (now (out .entry)) at r (now (out .exit)) ⌝ }
 {
     let next = put_word(out, at, key);
-    let k = decimal_digits(n);
-    put_digits(out, next, 10, k, n)
+    put_number(out, next, n)
 }
 
 // A word and one byte.
@@ -119,11 +156,13 @@ fn put_packet(out: &mut [u8], at: usize, key: &[u8], packet: Named) -> usize
     requires { ⌜ at + (length (now key) + 31) ≤ length (now out) ⌝ }
     ensures { λ r. ⌜ Wrote (length (now (key .entry)) + 21) (now (key .entry) ++ packetText packet) (now (out .entry)) at r (now (out .exit)) ⌝ }
 {
+    let next = put_word(out, at, key);
     match packet {
-        Named::None => put_letter(out, at, key, b'-'),
+        Named::None => put_byte(out, next, b'-'),
         Named::Packet(sender, sequence) => {
-            let next = put_decimal(out, at, key, sender as u64);
-            put_decimal(out, next, b":", sequence as u64)
+            let a = put_number(out, next, sender as u64);
+            let b = put_byte(out, a, b':');
+            put_number(out, b, sequence as u64)
         }
     }
 }
@@ -133,9 +172,10 @@ fn put_measured(out: &mut [u8], at: usize, key: &[u8], value: Measured) -> usize
     requires { ⌜ at + (length (now key) + 16) ≤ length (now out) ⌝ }
     ensures { λ r. ⌜ Wrote (length (now (key .entry)) + 16) (now (key .entry) ++ measuredText value) (now (out .entry)) at r (now (out .exit)) ⌝ }
 {
+    let next = put_word(out, at, key);
     match value {
-        Measured::None => put_letter(out, at, key, b'-'),
-        Measured::Bits(v) => put_hex(out, at, key, v),
+        Measured::None => put_byte(out, next, b'-'),
+        Measured::Bits(v) => put_hex(out, next, v),
     }
 }
 
@@ -159,7 +199,8 @@ pub fn record_line(
     ensures { λ r. ⌜ PutIs (recordText time part mark packet line) (now (out .entry)) at r (now (out .exit)) ⌝ }
 {
     if 128 <= left(out.len(), at) {
-        let a = put_hex(out, at, b"time=", time);
+        let o = put_word(out, at, b"time=");
+        let a = put_hex(out, o, time);
         let b = put_decimal(out, a, b" part=", part as u64);
         let c = put_letter(out, b, b" mark=", mark);
         let d = put_packet(out, c, b" packet=", packet);
@@ -176,7 +217,8 @@ pub fn stop_line(out: &mut [u8], at: usize, number: u32, clock: u64) -> Put
 {
     if 128 <= left(out.len(), at) {
         let a = put_decimal(out, at, b"stop=", number as u64);
-        let b = put_hex(out, a, b" clock=", clock);
+        let o = put_word(out, a, b" clock=");
+        let b = put_hex(out, o, clock);
         Put::At(put_byte(out, b, b'\n'))
     } else {
         Put::Full

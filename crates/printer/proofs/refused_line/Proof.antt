@@ -27,7 +27,7 @@ unfolding refusedText
 returns c =
     let end = c .before .before in
     let number = end .before .before .before .before in
-    put-done _ _ _ (omega arith) (wrote-then (number .put-decimal .ensures) (end .put-byte .ensures) (omega arith))
+    put-done _ _ _ (omega arith) (omega arith) (wrote-then (number .put-decimal .ensures) (end .put-byte .ensures) (omega arith))
 
 returns-2 : tie.Need-returns-2
 returns-2 c = put-full _ _ _ (omega arith)

@@ -16,8 +16,11 @@ slice-aggregate-put-decimal c = search needs
 put-decimal-requires : tie.Need-put-decimal-requires
 put-decimal-requires c κs = search needs
 
-slice-aggregate-put-hex : tie.Need-slice-aggregate-put-hex
-slice-aggregate-put-hex c = search needs
+slice-aggregate-put-word : tie.Need-slice-aggregate-put-word
+slice-aggregate-put-word c = search needs
+
+put-word-requires : tie.Need-put-word-requires
+put-word-requires c κs = search needs
 
 put-hex-requires : tie.Need-put-hex-requires
 put-hex-requires c κs = search needs
@@ -33,8 +36,10 @@ unfolding stopText
 returns c =
     let end = c .before .before in
     let clock = end .before .before .before .before in
-    let number = clock .before .before .before .before .before in
-    put-done _ _ _ (omega arith) (wrote-then (wrote-then (number .put-decimal .ensures) (clock .put-hex .ensures) (omega arith)) (end .put-byte .ensures) (omega arith))
+    let word = clock .before .before .before .before in
+    let number = word .before .before .before .before .before in
+    put-done _ _ _ (omega arith) (omega arith)
+    (wrote-then (wrote-then (number .put-decimal .ensures) (wrote-then (word .put-word .ensures) (clock .put-hex .ensures) (omega arith)) (omega arith)) (end .put-byte .ensures) (omega arith))
 
 returns-2 : tie.Need-returns-2
 returns-2 c = put-full _ _ _ (omega arith)
@@ -46,7 +51,8 @@ stop-line-spec =
     left-requires
     slice-aggregate-put-decimal
     put-decimal-requires
-    slice-aggregate-put-hex
+    slice-aggregate-put-word
+    put-word-requires
     put-hex-requires
     put-byte-requires
     same-length
