@@ -13,6 +13,7 @@ use Rattle.report.specs.declared.run.Report.{Report}
 use Rattle.filling.specs.declared.Filled.{Filled}
 use Rattle.report.specs.Report.{leftOf}
 use Rattle.filling.specs.Filling.{Puts, puts, noneLeft, FilledIs}
+use Rattle.filling.proofs.Left.{left-is}
 use Rattle.filling.proofs.Few.{fills}
 use Rattle.console.specs.declared.Turn.{Turn}
 use Rattle.console.specs.declared.output.Tally.{Tally}
@@ -22,11 +23,14 @@ use Rattle.console.specs.Turns.{TurnIs, HandedIs}
 
 -- ---- lines in a buffer
 
-record Split (before : List ℕ) (p : Puts) : Type 0 where
-  within : p .at ≤ length (p .out)
-  bytes : take (p .at) (p .out) ++ flatten (p .rest) ≡ before
+record Split (before : List ℕ) (at : ℕ) (out : List ℕ) (rest : List (List ℕ)) : Type 0 where
+  within : at ≤ length out
+  bytes : take at out ++ flatten rest ≡ before
 
-puts-split : (ls : List (List ℕ)) (out : List ℕ) (at : ℕ) → at ≤ length out → Split (take at out ++ flatten ls) (puts ls out at)
+abbrev SplitBy : List ℕ → Puts → Type 0
+SplitBy before p = Split before (p .at) (p .out) (p .rest)
+
+puts-split : (ls : List (List ℕ)) (out : List ℕ) (at : ℕ) → at ≤ length out → SplitBy (take at out ++ flatten ls) (puts ls out at)
 unfolding puts written flatten
 puts-split [] out at h = record { within = h; bytes = refl }
 puts-split (l ∷ ls) out at h =
@@ -36,22 +40,24 @@ puts-split (l ∷ ls) out at h =
     let all : length (front ++ tail) ≡ length front + length tail = length-append front tail in
     let put : take (at + length l) (front ++ tail) ++ flatten ls ≡ take at out ++ (l ++ flatten ls) =
     ap (λ (b : List ℕ). b ++ flatten ls) (take-at front tail (at + length l) long) ∙ append-assoc (take at out) l (flatten ls) in
-    cond-elim (Split (take at out ++ (l ++ flatten ls))) (leb (at + 128) (length out)) _ _
-    (λ e. subst (λ (b : List ℕ). Split b (puts ls (front ++ tail) (at + length l))) put (puts-split ls (front ++ tail) (at + length l) (omega (arith, long, all))))
+    cond-elim (SplitBy (take at out ++ (l ++ flatten ls))) (leb (at + 128) (length out)) _ _
+    (λ e. subst (λ (b : List ℕ). SplitBy b (puts ls (front ++ tail) (at + length l))) put (puts-split ls (front ++ tail) (at + length l) (omega (arith, long, all))))
     (λ e. record { within = h; bytes = refl })
 
-pub turn-is : (rep : Report) (out after : List ℕ) (f : Filled) → 65536 ≡ length out → 65536 ≡ length after → FilledIs (puts (leftOf rep) out 0) f after
+pub turn-is : (rep : Report) (out after : List ℕ) (f : Filled) → 65536 ≡ length out → 65536 ≡ length after → FilledIs rep out f after
     → TurnIs rep (record { bytes = after; count = f .at; done = f .done; report = f .report })
 turn-is rep out after f long same w =
     let s = puts-split (leftOf rep) out 0 (omega arith) in
+    let place : f .at ≡ puts (leftOf rep) out 0 .at = ap (λ (x : Filled). x .at) (w .answer) in
+    let left : leftOf (f .report) ≡ puts (leftOf rep) out 0 .rest = left-is rep out after f w in
     record {
       long = same;
-      within = omega (arith, same, s .within, ap length (w .bytes), w .at);
+      within = omega (arith, same, s .within, ap length (w .bytes), place);
       bytes = ap (λ (b : List ℕ). take (f .at) b ++ flatten (leftOf (f .report))) (w .bytes)
-          ∙ ap (λ (k : ℕ). take k (puts (leftOf rep) out 0 .out) ++ flatten (leftOf (f .report))) (w .at)
-          ∙ ap (λ (ls : List (List ℕ)). take (puts (leftOf rep) out 0 .at) (puts (leftOf rep) out 0 .out) ++ flatten ls) (w .left)
+          ∙ ap (λ (k : ℕ). take k (puts (leftOf rep) out 0 .out) ++ flatten (leftOf (f .report))) place
+          ∙ ap (λ (ls : List (List ℕ)). take (puts (leftOf rep) out 0 .at) (puts (leftOf rep) out 0 .out) ++ flatten ls) left
           ∙ s .bytes;
-      done = w .done ∙ ap noneLeft (sym (w .left));
+      done = ap (λ (x : Filled). x .done) (w .answer) ∙ ap noneLeft (sym left);
       fewer = fills rep out after f (omega (arith, long)) w;
     }
 

@@ -1,4 +1,5 @@
 mod Putting
 mod Running
-mod Printed
+mod Ending
+pub mod Left
 pub mod Few

@@ -1,5 +1,5 @@
 -- By the stage of the report. Assumes nothing.
-use Rattle.filling.proofs.Printed.{at-stage, nothing-left}
+use Rattle.filling.proofs.Ending.{at-stage, nothing-left}
 use borrow.Author.Needs.{needs}
 use Rattle.filling.proofs.fill.Statement.{statement}
 use Rattle.filling.proofs.fill.Tie as tie

@@ -1,8 +1,5 @@
 -- The stop line, and the flows after it. Assumes nothing.
-use mathlib.Core.Path.{refl}
-use Rattle.lines.specs.Lines.{endLines}
-use Rattle.report.specs.Report.{leftOf}
-use Rattle.filling.proofs.Putting.{put-goes, line-left, filled-as}
+use Rattle.filling.proofs.Ending.{end-goes, end-full}
 use borrow.Author.Needs.{needs}
 use Rattle.filling.proofs.put_end.Statement.{statement}
 use Rattle.filling.proofs.put_end.Tie as tie
@@ -26,15 +23,13 @@ same-length : tie.Need-same-length
 same-length c = search needs
 
 returns : tie.Need-returns
-unfolding endLines
-returns c = filled-as (put-goes _ _ _ _ _ _ (c .before .before .before .before .before .before .before .before .before .stop-bytes .ensures) _ (c .before .before .before .before .before .next .given .1)) (c .before .before .put-flows .ensures)
+returns c = end-goes _ _ _ _ _ _ (c .before .before .before .before .before .before .before .before .before .stop-bytes .ensures) _ (c .before .before .before .before .before .next .given .1) _ _ (c .before .before .put-flows .ensures)
 
 same-length-2 : tie.Need-same-length-2
 same-length-2 c = search needs
 
 returns-2 : tie.Need-returns-2
-unfolding endLines leftOf
-returns-2 c = rw (c .answer .ensures) (line-left _ _ _ _ _ _ _ (c .before .before .before .before .before .stop-bytes .ensures) (c .before .enum-told .given .1) refl)
+returns-2 c = rw (c .answer .ensures) (end-full _ _ _ _ _ _ (c .before .before .before .before .before .stop-bytes .ensures) (c .before .enum-told .given .1))
 
 pub put-end-spec : {M : Type 1} → statement M
 put-end-spec =

@@ -1,18 +1,21 @@
--- The invariant: what is put from here is what is put from the start. The measure is how many flows are left. Assumes nothing.
+-- The invariant: what is so from here is so from the start. The measure is how many flows are left. Assumes nothing.
 use Prim.Native.Nat.{_-_, _<_}
 use mathlib.Core.Path.{_≡_, refl, _∙_}
 use native.Mathlib.Omega.{arith}
 use lib.ListN.{length}
 use borrow.Author.Needs.{needs}
 use Rattle.lines.specs.Lines.{flowCount, flowsFrom}
-use Rattle.filling.specs.Filling.{puts}
-use Rattle.filling.proofs.Running.{flow-count-le, flow-goes, flow-full, flows-done}
+use Rattle.report.specs.declared.run.Stage.the-variants as Stage
+use Rattle.filling.specs.Filling.{restAt, filledBy}
+use Rattle.filling.proofs.Putting.{From}
+use Rattle.filling.proofs.Ending.{flow-count-le, flow-goes, flow-full, flows-done}
 use Rattle.filling.proofs.put_flows.Statement.{statement}
 use Rattle.filling.proofs.put_flows.Tie as tie
 
 abbrev Inv-loop : tie.InvT-loop
 Inv-loop out₀ at first simulation n clock i₀ next₀ out i next =
-    (puts (flowsFrom simulation i) out next ≡ puts (flowsFrom simulation first) out₀ at) × (length out ≡ length out₀)
+    From (filledBy (restAt simulation (Stage.Flows first))) (flowsFrom simulation first) out₀ at (filledBy (restAt simulation (Stage.Flows i))) (flowsFrom simulation i) out next
+    × (length out ≡ length out₀)
 
 abbrev μ-loop : tie.MeasureT-loop
 μ-loop out₀ at first simulation n clock i₀ next₀ out i next = n - i
@@ -24,7 +27,7 @@ time-requires : tie.Need-time-requires Inv-loop μ-loop
 time-requires c κs = search needs
 
 loop-holds : tie.Need-loop-holds Inv-loop μ-loop
-loop-holds c = (refl, refl)
+loop-holds c = (λ r after w. w, refl)
 
 cast-k : tie.Need-cast-k Inv-loop μ-loop
 cast-k c = search needs
@@ -66,7 +69,7 @@ loop-again c =
     let w = c .before .before .before .before .before .flow-bytes in
     let p = c .before .before .before .before .before .before .before .before .before in
     let l = p .before .loop in
-    (flow-goes _ (l .i) _ _ _ (l .inv .0) _ (p .before .before .time .ensures) _ _ (w .ensures) (below p) _ (c .before .after .given .1), w .kept .0 ∙ l .inv .1)
+    (λ r after v. l .inv .0 r after (flow-goes _ (l .i) _ _ _ (p .before .before .time .ensures) _ _ (w .ensures) (below p) _ (c .before .after .given .1) r after v), w .kept .0 ∙ l .inv .1)
 
 enum-told : tie.Need-enum-told Inv-loop μ-loop
 enum-told c = search needs
@@ -82,7 +85,7 @@ returns c =
     let w = c .before .before .before .before .before .flow-bytes in
     let p = c .before .before .before .before .before .before .before .before .before in
     let l = p .before .loop in
-    rw (c .answer .ensures) (flow-full _ (l .i) _ _ _ (l .inv .0) _ (p .before .before .time .ensures) _ _ (w .ensures) (below p) (c .before .enum-told .given .1))
+    rw (c .answer .ensures) (l .inv .0 _ _ (flow-full _ (l .i) _ _ _ (p .before .before .time .ensures) _ _ (w .ensures) (below p) (c .before .enum-told .given .1)))
 
 answer-requires-2 : tie.Need-answer-requires-2 Inv-loop μ-loop
 answer-requires-2 c κs = search needs
@@ -93,7 +96,7 @@ same-length-2 c = c .before .before .loop .inv .1
 returns-2 : tie.Need-returns-2 Inv-loop μ-loop
 returns-2 c =
     let l = c .before .before .loop in
-    rw (c .answer2 .ensures) (flows-done _ (l .i) _ _ _ (l .inv .0) (omega (arith, c .before .loop-test .left, c .before .before .before .before .flow-count .ensures)))
+    rw (c .answer2 .ensures) (l .inv .0 _ _ (flows-done _ (l .i) _ _ (omega (arith, c .before .loop-test .left, c .before .before .before .before .flow-count .ensures))))
 
 pub put-flows-spec : {M : Type 1} → statement M
 put-flows-spec =

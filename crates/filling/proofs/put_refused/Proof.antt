@@ -1,7 +1,5 @@
 -- One line, put or left. Assumes nothing.
-use mathlib.Core.Path.{refl, sym, _∙_}
-use Rattle.report.specs.Report.{leftOf}
-use Rattle.filling.proofs.Putting.{put-goes, puts-none, line-left, filled-whole}
+use Rattle.filling.proofs.Ending.{refused-put, refused-full}
 use borrow.Author.Needs.{needs}
 use Rattle.filling.proofs.put_refused.Statement.{statement}
 use Rattle.filling.proofs.put_refused.Tie as tie
@@ -25,15 +23,13 @@ same-length : tie.Need-same-length
 same-length c = search needs
 
 returns : tie.Need-returns
-unfolding leftOf
-returns c = rw (c .answer .ensures) (filled-whole _ _ _ _ (sym (put-goes _ _ _ _ _ _ (c .before .before .before .before .before .before .refused-line .ensures) _ (c .before .before .at .given .1)) ∙ puts-none _ _) refl)
+returns c = rw (c .answer .ensures) (refused-put _ _ _ _ _ _ (c .before .before .before .before .before .before .refused-line .ensures) _ (c .before .before .at .given .1))
 
 same-length-2 : tie.Need-same-length-2
 same-length-2 c = search needs
 
 returns-2 : tie.Need-returns-2
-unfolding leftOf
-returns-2 c = rw (c .answer2 .ensures) (line-left _ _ _ _ _ _ _ (c .before .before .before .before .before .refused-line .ensures) (c .before .enum-told .given .1) refl)
+returns-2 c = rw (c .answer2 .ensures) (refused-full _ _ _ _ _ _ (c .before .before .before .before .before .refused-line .ensures) (c .before .enum-told .given .1))
 
 pub put-refused-spec : {M : Type 1} → statement M
 put-refused-spec =

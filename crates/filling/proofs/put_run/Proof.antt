@@ -5,7 +5,7 @@ use denote.Enum.Declared.{tagOf}
 use types.Run.{OneOf, miss}
 use Rattle.report.specs.declared.run.Stage.{Stage}
 use Rattle.report.proofs.run.Stage.{the-type}
-use Rattle.filling.proofs.Running.{run-ends, run-waits}
+use Rattle.filling.proofs.Ending.{run-ends, run-waits}
 use borrow.Author.Needs.{needs}
 use Rattle.filling.proofs.put_run.Statement.{statement}
 use Rattle.filling.proofs.put_run.Tie as tie
