@@ -6,26 +6,11 @@ use text::held::{
 };
 
 use crate::{
-    components::{
-        bouncer::LossyBouncer,
-        link::Link,
-        packet::{Ends, Packet},
-        senders::lossy::LossySender,
-        toggler::Toggler,
-    },
-    effect::Effect,
+    components::packet::{Ends, Packet},
     policy::Policy,
-    simulation::Simulator,
-    util::{logging::NothingLogger, meters::AverageFlowMeter},
+    util::meters::AverageFlowMeter,
+    wiring::{LinkPart, SenderPart, Simulation, TogglerPart},
 };
-
-pub type Simulation<'sim, 'a> = Simulator<'sim, 'a, Effect<'sim>, NothingLogger>;
-
-pub type LinkPart<'sim> = Link<'sim, Effect<'sim>, NothingLogger>;
-pub type BouncerPart<'sim> = LossyBouncer<'sim, Effect<'sim>, NothingLogger>;
-pub type SenderPart<'sim, 'a, G> =
-    LossySender<'sim, 'a, Policy, AverageFlowMeter, G, Effect<'sim>, NothingLogger>;
-pub type TogglerPart<'sim> = Toggler<'sim, Effect<'sim>>;
 
 /// What a part number stands for.
 #[derive(Clone, Copy, Debug, PartialEq)]

@@ -5,10 +5,7 @@
 //! the simulation is of no more use, so it is built anew and run up to that tick: this is the
 //! state that the refusal leaves as it was.
 
-use std::{
-    panic::{catch_unwind, resume_unwind, AssertUnwindSafe},
-    time::{Duration, Instant},
-};
+use std::panic::{catch_unwind, resume_unwind, AssertUnwindSafe};
 
 use generativity::{with_guard, Guard};
 use rand_distr::{limit_tries, Spent};
@@ -20,13 +17,13 @@ use text::{
 
 use crate::{
     effect::{arrived, Arrived},
-    look::{Part, Parts, Simulation, View},
+    look::{Part, Parts, View},
     policy::Policy,
     quantities::packets,
     simulation::SimulatorBuilder,
     sizes,
     util::{logging::NothingLogger, rand::Rng},
-    wiring::{amount, fill},
+    wiring::{amount, fill, Simulation},
 };
 
 /// Packets that may wait for a line, and packets that may be on it.
@@ -137,35 +134,6 @@ fn run(
         number: 0,
         held,
         flows,
-    })
-}
-
-/// What `ticks` did.
-pub struct Ticks {
-    pub moved: u32,
-    pub clock: f64,
-    pub spent: Duration,
-}
-
-/// The published `tick` so many times, or until it returns false, and nothing between the calls: no
-/// stop that a tick meets is found. The error is the number of a refused build.
-pub fn ticks(description: &Description, count: u32) -> Result<Ticks, u8> {
-    with_guard(|guard| {
-        let mut rng = Rng::from_seed(description.seed);
-        let mut simulation = built(guard, description, policies(description), &mut rng)?;
-        let start = Instant::now();
-        let mut moved = 0;
-        while moved < count && simulation.tick() {
-            moved += 1;
-        }
-        let spent = start.elapsed();
-        // The clock comes of every tick, so none can be left out.
-        let clock = simulation.time().double();
-        Ok(Ticks {
-            moved,
-            clock,
-            spent,
-        })
     })
 }
 

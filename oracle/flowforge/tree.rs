@@ -1,10 +1,10 @@
-//! Build script of both crates: lays out, in the build folder, the module tree that the published
-//! lib.rs asks for.
+//! Build script of the crates that compile the published files: lays out, in the build folder, the module
+//! tree that the published lib.rs asks for.
 //!
 //! Each published file stands there under its own path: as a link to it, or as a module of two
 //! lines that includes it and, beside it, functions that read its private fields. Modules that the
 //! listed files don't hold come from `missing/`. The crate `patched` has two files that are not the
-//! published ones: their patched copies.
+//! published ones: their patched copies. The crates named `ticks` have nothing beside the files.
 
 use std::{
     env, fs,
@@ -80,7 +80,8 @@ fn main() {
     let harness = fs::canonicalize("..").unwrap();
     let out = PathBuf::from(env::var("OUT_DIR").unwrap());
     let tree = out.join("tree");
-    let patched = env::var("CARGO_PKG_NAME").unwrap() == "patched";
+    let package = env::var("CARGO_PKG_NAME").unwrap();
+    let (patched, alone) = (package == "patched", package == "ticks");
 
     // The file that is compiled in the place of a published one: itself, or its patched copy.
     let compiled = |path: &str| {
@@ -100,6 +101,10 @@ fn main() {
         link(&compiled(path), &tree.join(path));
     }
     for path in WITH_BESIDE {
+        if alone {
+            link(&compiled(path), &tree.join(path));
+            continue;
+        }
         let name = Path::new(path).file_name().unwrap();
         let beside = track(harness.join("beside").join(name));
         write(
@@ -111,10 +116,10 @@ fn main() {
         let stand_in = track(harness.join("missing").join(stand_in));
         link(&stand_in, &tree.join(path));
     }
-    let root = format!(
-        "#[path = {:?}]\npub mod flowforge;\n\nconst PATCHED: bool = {patched};\n",
-        tree.join("lib.rs")
-    );
+    let mut root = format!("#[path = {:?}]\npub mod flowforge;\n", tree.join("lib.rs"));
+    if !alone {
+        root += &format!("\nconst PATCHED: bool = {patched};\n");
+    }
     write(&out.join("root.rs"), &root);
 }
 

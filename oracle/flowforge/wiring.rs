@@ -8,11 +8,10 @@ use crate::{
         bouncer::LossyBouncer, link::Link, senders::lossy::LossySender, toggler::Toggler,
     },
     effect::{Effect, Effects},
-    look::{BouncerPart, LinkPart, SenderPart, TogglerPart},
     networks::remy::RemyNetwork,
     policy::Policy,
     quantities::{bits_per_second, bytes, packets, seconds, Information, TimeSpan},
-    simulation::SimulatorBuilder,
+    simulation::{Simulator, SimulatorBuilder},
     util::{
         logging::NothingLogger,
         meters::AverageFlowMeter,
@@ -20,6 +19,14 @@ use crate::{
     },
     Network,
 };
+
+pub type Simulation<'sim, 'a> = Simulator<'sim, 'a, Effect<'sim>, NothingLogger>;
+
+pub type LinkPart<'sim> = Link<'sim, Effect<'sim>, NothingLogger>;
+pub type BouncerPart<'sim> = LossyBouncer<'sim, Effect<'sim>, NothingLogger>;
+pub type SenderPart<'sim, 'a, G> =
+    LossySender<'sim, 'a, Policy, AverageFlowMeter, G, Effect<'sim>, NothingLogger>;
+pub type TogglerPart<'sim> = Toggler<'sim, Effect<'sim>>;
 
 /// Each sender's policies are made by a copy of `make_policy`; its meter is an `AverageFlowMeter`.
 pub fn fill<'sim: 'a, 'a, G: Fn() -> Policy + Clone + 'a>(

@@ -27,7 +27,6 @@ fn main() -> ExitCode {
     let arguments: Vec<String> = std::env::args().skip(1).collect();
     let words: Vec<&str> = arguments.iter().map(String::as_str).collect();
     let (mode, always_patched) = match words[..] {
-        ["ticks", count] => return ended(ticks(count)),
         [mode] => (mode, false),
         [mode, "--patched"] => (mode, true),
         _ => return usage(),
@@ -56,7 +55,6 @@ fn ended(done: io::Result<()>) -> ExitCode {
 fn usage() -> ExitCode {
     eprintln!("usage: oracle run|held|digest [--patched] < description");
     eprintln!("       oracle script [--patched] < script");
-    eprintln!("       oracle ticks COUNT < description, or a line of a script");
     eprintln!("       oracle loads < list");
     eprintln!("       oracle meters < script");
     ExitCode::from(2)
@@ -171,39 +169,6 @@ fn fnv_1a(bytes: &[u8]) -> u64 {
     bytes.iter().fold(0xcbf2_9ce4_8422_2325, |hash, byte| {
         (hash ^ u64::from(*byte)).wrapping_mul(0x0000_0100_0000_01b3)
     })
-}
-
-/// The network on standard input: a description, or a line of a script, which may have a return line.
-fn network() -> io::Result<Result<Description, u8>> {
-    let text = input()?;
-    let line = std::str::from_utf8(&text).ok().map(str::trim_end);
-    Ok(match line.and_then(script::read) {
-        Some((_, description)) => Ok(description),
-        None => Description::read(&text).ok_or(15),
-    })
-}
-
-/// The published files as they are, with nothing of the harness between the ticks.
-fn ticks(count: &str) -> io::Result<()> {
-    let count = count.parse().map_err(io::Error::other)?;
-    let done = match network()? {
-        Err(number) => Err(number),
-        Ok(description) => match description.refused() {
-            Some(number) => Err(number),
-            None if has_published_size(&description) => {
-                published::session::ticks(&description, count)
-            }
-            None => return Err(io::Error::other("ticks takes packets of 11200 bits")),
-        },
-    };
-    match done {
-        Ok(done) => {
-            let (clock, spent) = (text::hex(done.clock), done.spent.as_nanos());
-            println!("ticks {} {clock} {spent}", done.moved);
-        }
-        Err(number) => println!("stop={number}"),
-    }
-    Ok(())
 }
 
 /// The oracle's own reader of descriptions: nothing is built or run.
