@@ -12,8 +12,10 @@ extern "C" {
 
 /* Bytes of a buffer that no run is too large for: 65,536 records, a stop line and 16 flows, of at
    most 128 bytes each. A line is put only where 128 bytes are free, so a smaller buffer can be too
-   small for a run whose bytes it could hold. A run of t ticks needs at most (t + 17) * 128. */
+   small for a run whose bytes it could hold. A run of t ticks needs at most (t + 17) * 128. Both
+   are proved, as is the next: a stop line and 16 flows. */
 #define REMYLINE_ENOUGH 8390784
+#define REMYLINE_FLOWS_ENOUGH 2176
 
 /* Puts all that is printed for the description text[0..text_len] into out, from its start, and
    answers how many bytes that is. The answer is 0 where out is too small, and only there: then
@@ -33,6 +35,10 @@ extern "C" {
    of it, and allocates nothing; of the C library it needs memcpy and memset. Several threads may
    call it at once, each with a buffer of its own. */
 size_t remyline_print(const uint8_t *text, size_t text_len, uint8_t *out, size_t out_len);
+
+/* The same, of the stop line and the flows alone: the last lines of what remyline_print puts, and no
+   record is made into text. It takes about as long as the ticks themselves. */
+size_t remyline_flows(const uint8_t *text, size_t text_len, uint8_t *out, size_t out_len);
 
 #ifdef __cplusplus
 }

@@ -1,9 +1,11 @@
 /* A thousand runs in one process, and a table of them:
 
        table examples/small-queue.txt > table.csv
+       table --flows examples/small-queue.txt > flows.csv
 
    The description is run with 10 limits, 10 windows and 10 seeds in the place of its own. The
-   columns are described in README.md; table.py writes the same table. */
+   columns are described in README.md; table.py writes the same tables. With --flows no record is
+   printed or read, and the column `full`, which counts records, is left out. */
 #include <inttypes.h>
 #include <stdio.h>
 #include <stdlib.h>
@@ -51,8 +53,8 @@ static double double_of(const char *digits) {
     return value;
 }
 
-/* A row of the table from the lines of a run. */
-static void row(const char *lines, const char *end, unsigned limit, unsigned window, unsigned seed) {
+/* A row of the table from the lines of a run, or from its last lines. */
+static void row(const char *lines, const char *end, int flows_only, unsigned limit, unsigned window, unsigned seed) {
     unsigned stop = 0, flows = 0, rates = 0;
     uint64_t sent = 0, counted = 0, full = 0;
     double sum = 0;
@@ -82,9 +84,13 @@ static void row(const char *lines, const char *end, unsigned limit, unsigned win
     }
     printf("%u,%u,%u,%u,", limit, window, seed, stop);
     if (flows)
-        printf("%" PRIu64 ",%" PRIu64 ",%" PRIu64 ",", sent, counted, full);
+        printf("%" PRIu64 ",%" PRIu64 ",", sent, counted);
     else
-        printf("-,-,-,");
+        printf("-,-,");
+    if (!flows_only && flows)
+        printf("%" PRIu64 ",", full);
+    else if (!flows_only)
+        printf("-,");
     if (rates)
         printf("%.3f\n", sum / rates);
     else
@@ -93,21 +99,23 @@ static void row(const char *lines, const char *end, unsigned limit, unsigned win
 
 int main(int argc, char **argv) {
     char base[MOST_TEXT] = "", text[MOST_TEXT];
-    FILE *file = argc == 2 ? fopen(argv[1], "rb") : NULL;
+    int flows_only = argc == 3 && strcmp(argv[1], "--flows") == 0;
+    FILE *file = argc == 2 + flows_only ? fopen(argv[argc - 1], "rb") : NULL;
     if (!file)
         fail("give the file of a description");
     base[fread(base, 1, sizeof base - 1, file)] = 0;
     fclose(file);
-    printf("limit,window,seed,stop,sent,counted,full,rate\n");
+    printf("limit,window,seed,stop,sent,counted,%srate\n", flows_only ? "" : "full,");
     for (unsigned limit = 22400; limit <= 224000; limit += 22400)
         for (unsigned window = 2; window <= 20; window += 2)
             for (unsigned seed = 1; seed <= 10; seed++) {
                 size_t len = described(text, base, limit, window, seed);
-                size_t n = remyline_print((const uint8_t *)text, len, out, REMYLINE_ENOUGH);
+                size_t n = flows_only ? remyline_flows((const uint8_t *)text, len, out, REMYLINE_FLOWS_ENOUGH)
+                                      : remyline_print((const uint8_t *)text, len, out, REMYLINE_ENOUGH);
                 if (n == 0)
                     fail("the buffer is too small");
                 out[n] = 0;
-                row((const char *)out, (const char *)out + n, limit, window, seed);
+                row((const char *)out, (const char *)out + n, flows_only, limit, window, seed);
             }
     return fflush(stdout) ? 1 : 0;
 }
