@@ -11,7 +11,7 @@ use borrow.Author.Tests.{leb-true, eqb-true, lt-ltb}
 use Rattle.quantities.specs.declared.time.OptionTime.{OptionTime}
 use Rattle.quantities.specs.declared.time.OptionTime.TheVariants.{None, Some}
 use Rattle.quantities.specs.Doubles.{power}
-use Rattle.rand.specs.Draws.{unit_of}
+use Rattle.draws.specs.Draws.{unit_of}
 use Rattle.link.specs.declared.packet.Packet.{Packet}
 use Rattle.link.specs.declared.packet.Waiting.{Waiting}
 use Rattle.link.specs.declared.link.Left.{Left}

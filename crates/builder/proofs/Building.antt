@@ -2,9 +2,9 @@
 use Prim.Native.Nat.{ℕ, ◌≤◌}
 use mathlib.Core.Path.{◌≡◌, sym, ◌∙◌}
 use borrow.Author.Tests.{ne_eqb}
-use Rattle.rand.specs.declared.generator.Rng.{Rng}
-use Rattle.rand.specs.declared.generator.Child.{Child}
-use Rattle.rand.specs.Generator.{from_seed, child_of}
+use Rattle.draws.specs.declared.generator.Rng.{Rng}
+use Rattle.draws.specs.declared.generator.Child.{Child}
+use Rattle.draws.specs.Generator.{from_seed, child_of}
 use Rattle.remy.specs.declared.network.RemyNetwork.{RemyNetwork}
 use Rattle.remy.specs.Network.{network_stop}
 use Rattle.remy.specs.Build.{no_parts, populate, not_built, build_from, build_of}

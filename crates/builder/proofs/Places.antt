@@ -8,7 +8,7 @@ use lib.ListN.{length, take, set, get_or}
 use lib.Seq.{take_all, take-suc-set}
 use Rattle.quantities.specs.declared.time.OptionTime.{OptionTime}
 use Rattle.quantities.specs.declared.time.OptionTime.TheVariants.{None}
-use Rattle.rand.specs.declared.generator.Rng.{Rng}
+use Rattle.draws.specs.declared.generator.Rng.{Rng}
 use Rattle.toggler.specs.declared.tick_queue.Queued.{Queued}
 use Rattle.link.specs.Ring.{places}
 use Rattle.toggler.specs.Queue.{queue_places}

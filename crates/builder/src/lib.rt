@@ -1,5 +1,6 @@
 // The build (document 01, "Tick and history" and the rows 1 to 8 of "Stops"; document 02, K4): a network
 // and a seed give a simulation with its first part picked, or the number of what is refused.
+#![tactic(auto)]
 ghost use Rattle.std.specs.Prelude.{◌≡◌, ◌≤◌};
 ghost use Rattle.remy.specs.Build.{not_built, build_from, build_of};
 ghost use Rattle.parts.specs.Parts.{parts_of};
@@ -11,7 +12,7 @@ use crate::queue::{pick_next, queue_all};
 use crate::state::fresh;
 use parts::{back_words, make};
 use quantities::{Time, TimeSpan};
-use rand::Rng;
+use draws::Rng;
 use ranges::network_stop;
 use remy::{Built, Head, Next, RemyNetwork};
 use sender::LossySender;

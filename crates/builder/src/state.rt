@@ -8,7 +8,7 @@ use parts::{
     blank_transit, blank_waiting, blank_words, empty_network, empty_words, new_line, no_parts,
 };
 use quantities::{OptionTime, Time};
-use rand::Rng;
+use draws::Rng;
 use remy::{Head, Next, RemyNetwork, Simulation};
 use sender::LossySender;
 use toggler::{Queued, Toggler};

@@ -4,7 +4,7 @@ use mathlib.Core.Path.{◌≡◌, refl, sym, ap, subst, ◌∙◌}
 use mathlib.Core.Bool.{Bool, true, false, ◌&&◌, cond}
 use mathlib.Core.List.{List, [], ◌∷◌, map}
 use native.Mathlib.Decide.{ℕ_discrete}
-use native.Mathlib.Nat.{zero-add, add_zero, add_assoc}
+use native.Mathlib.Nat.{zero-add, add-zero, add_assoc}
 use native.Mathlib.Omega.{arith}
 use lib.Dec.{eqb}
 use lib.ListN.{length, get_or, set, length-set}
@@ -26,7 +26,7 @@ rest d slots l start count i = items_from d slots l (start + i) (count - i)
 
 module _ {A : Type 0} (d : A) (slots : List A) (l start count : ℕ) where
   pub rest_all : rest d slots l start count 0 ≡ items_from d slots l start count
-  rest_all = let e : count - 0 ≡ count = omega arith in rw (add_zero, e)
+  rest_all = let e : count - 0 ≡ count = omega arith in rw (add-zero, e)
 
   pub rest-next : (i : ℕ) → i < count → rest d slots l start count i ≡ get_or slots (slot_of l ((start + i) % places)) d ∷ rest d slots l start count (i + 1)
   rest-next i h =
@@ -162,7 +162,7 @@ module _ (d : Waiting) (slots : List Waiting) (l start count : ℕ) where
             ap total_bits (rest-next d slots l start count i h) ∙ ap (λ (n : ℕ). n + total_bits (rest d slots l start count (i + 1))) e
 
     pub summed-all : count ≤ i → total_bits (items_from d slots l start count) ≡ sum
-    summed-all h = sym s.all ∙ ap (λ (l : List Waiting). sum + total_bits l) (rest-none d slots l start count i h) ∙ add_zero sum
+    summed-all h = sym s.all ∙ ap (λ (l : List Waiting). sum + total_bits l) (rest-none d slots l start count i h) ∙ add-zero sum
 
 -- ---- due times that do not fall
 

@@ -10,7 +10,7 @@ use toggler::Queued;
 
 // What is found of a line: counts of the senders' packets, and what stands at the start of the ring of
 // those on it.
-#[derive(Drop)]
+#[derive(Clone, Copy)]
 pub struct LineFound {
     pub counts: [usize; 16],
     pub front: Transit,
@@ -18,7 +18,7 @@ pub struct LineFound {
 
 // What is found of the lines: counts of the senders' packets, and the links' own next times as they are
 // queued.
-#[derive(Drop)]
+#[derive(Clone, Copy)]
 pub struct LinesFound {
     pub counts: [usize; 16],
     pub links: [Queued; 2],

@@ -7,7 +7,7 @@ ghost use Rattle.clauses.specs.Tests.{AtMost, timer_test, enabled_test, state_te
 use meters::AverageFlowMeter;
 use quantities::float::in_range;
 use quantities::{OptionTime, Time, TimeSpan};
-use rand::Rng;
+use draws::Rng;
 use ranges::frame::{past_fit, time_held};
 use ranges::window_fit;
 use sender::{Enabled, LossySender, Policy, SenderState};

@@ -1,5 +1,6 @@
 // The text program (document 01, "The text program") over standard input and output. No contract sees
 // what is read or written: these say which bytes are handed to the writes.
+#![tactic(auto)]
 ghost use Rattle.std.specs.Prelude.{◌≤◌, length};
 ghost use mathlib.Core.List.{flatten};
 ghost use Rattle.report.specs.Report.{left_of, report_of, ForText};
@@ -13,7 +14,7 @@ use report::Report;
 
 // A part of a report: the first so many bytes of a buffer, whether nothing is left after them, and the
 // report of what is left.
-#[derive(Drop)]
+#[derive(Clone, Copy)]
 struct Turn {
     bytes: [u8; 65536],
     count: usize,

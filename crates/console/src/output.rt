@@ -4,11 +4,11 @@ ghost use Rattle.std.specs.Prelude.{◌+◌, ◌^◌, ◌<◌, ◌≡◌, length
 ghost use Rattle.console.specs.Turns.{HandedIs};
 
 // How many bytes were handed to standard output. Only `hand` adds to it.
-#[derive(Drop)]
+#[derive(Clone, Copy)]
 pub struct Tally(u64);
 
 // All bytes so far were taken, or a write failed.
-#[derive(Drop)]
+#[derive(Clone, Copy)]
 pub enum Handed {
     All(Tally),
     Failed,

@@ -1,4 +1,5 @@
 // The text of a description of a network, read (document 01, "The text program").
+#![tactic(auto)]
 ghost use Rattle.std.specs.Prelude.{◌≡◌};
 ghost use Rattle.description.specs.Text.{ReadIs, answer_of, malformed};
 ghost use Rattle.description.specs.Lines.{gathered_of};
@@ -10,27 +11,27 @@ use lines::{
     load_lines,
 };
 
-#[derive(Drop)]
+#[derive(Clone, Copy)]
 pub enum Limit {
     None,
     Bits(u64),
 }
 
 // A double is held as its 64 bits.
-#[derive(Drop)]
+#[derive(Clone, Copy)]
 pub enum Distribution {
     Always(u64),
     Uniform(u64, u64),
 }
 
-#[derive(Drop)]
+#[derive(Clone, Copy)]
 pub enum Policy {
     Held(u32),
     Grown(u32, u32),
     Timed(u32, u64),
 }
 
-#[derive(Drop)]
+#[derive(Clone, Copy)]
 pub struct Description {
     pub delay: u64,
     pub rate: u64,
@@ -46,7 +47,7 @@ pub struct Description {
 }
 
 // The number is 0 with the description of a text, and 15 with a blank one.
-#[derive(Drop)]
+#[derive(Clone, Copy)]
 pub struct ReadDescription {
     pub number: u32,
     pub description: Description,

@@ -54,32 +54,32 @@ pub const SEED: u64 = 0x73_65_65_64_3d; // seed=
 pub const TICKS: u64 = 0x74_69_63_6b_73_3d; // ticks=
 
 // Two numbers, and the position after them.
-#[derive(Drop)]
+#[derive(Clone, Copy)]
 pub enum Two {
     At(u64, u64, usize),
     Refused,
 }
 
-#[derive(Drop)]
+#[derive(Clone, Copy)]
 pub enum LimitAt {
     At(Limit, usize),
     Refused,
 }
 
-#[derive(Drop)]
+#[derive(Clone, Copy)]
 pub enum DistributionAt {
     At(Distribution, usize),
     Refused,
 }
 
-#[derive(Drop)]
+#[derive(Clone, Copy)]
 pub enum PolicyAt {
     At(Policy, usize),
     Refused,
 }
 
 // How a number is written: as a double, or whole and at most a given number.
-#[derive(Drop)]
+#[derive(Clone, Copy)]
 pub enum Kind {
     Double,
     Whole(u64),
@@ -216,7 +216,7 @@ pub(crate) fn policy_line(text: &[u8], at: usize) -> PolicyAt
 }
 
 // The link: delay, rate, loss and limit.
-#[derive(Drop)]
+#[derive(Clone, Copy)]
 pub struct Link {
     pub delay: u64,
     pub rate: u64,
@@ -224,7 +224,7 @@ pub struct Link {
     pub limit: Limit,
 }
 
-#[derive(Drop)]
+#[derive(Clone, Copy)]
 pub enum LinkAt {
     At(Link, usize),
     Refused,
@@ -258,7 +258,7 @@ pub(crate) fn link_lines(text: &[u8], at: usize) -> LinkAt
 
 // What the `bits` line says: how many values it has, 0 where there is no such line, the numbers that a
 // description holds, and the position after the line.
-#[derive(Drop)]
+#[derive(Clone, Copy)]
 pub struct Sizes {
     pub count: usize,
     pub values: [u64; 16],
@@ -337,14 +337,14 @@ pub(crate) fn counted(count: usize, senders: u32) -> bool
 }
 
 // The load: the number of senders, and their on and off times.
-#[derive(Drop)]
+#[derive(Clone, Copy)]
 pub struct Load {
     pub senders: u32,
     pub on: Distribution,
     pub off: Distribution,
 }
 
-#[derive(Drop)]
+#[derive(Clone, Copy)]
 pub enum LoadAt {
     At(Load, usize),
     Refused,
@@ -373,14 +373,14 @@ pub(crate) fn load_lines(text: &[u8], at: usize) -> LoadAt
 }
 
 // The run: policy, seed and ticks.
-#[derive(Drop)]
+#[derive(Clone, Copy)]
 pub struct Course {
     pub policy: Policy,
     pub seed: u64,
     pub ticks: u32,
 }
 
-#[derive(Drop)]
+#[derive(Clone, Copy)]
 pub enum CourseAt {
     At(Course, usize),
     Refused,

@@ -1,6 +1,7 @@
 // How a program calls the simulator: it builds document 01's worked example, ticks it once, runs six
 // more ticks, reads the flow of sender 0 and prints it. `stdout` beside src/ is what it has to print.
 // Structs go in and come out by value: a tick takes a simulation and answers the one after it.
+#![tactic(auto)]
 ghost use Rattle.std.specs.Prelude.{◌≡◌};
 ghost use Rattle.remy.specs.Build.{build_of};
 ghost use Rattle.remy.specs.Run.{run_of};
@@ -10,7 +11,7 @@ use flows::Rtt;
 use link::{Limit, LineValues};
 use meters::FlowRead;
 use quantities::float::to_bits;
-use rand::ContinuousDistribution;
+use draws::ContinuousDistribution;
 use reading::SenderFlow;
 use remy::{RemyNetwork, ReturnLine};
 use sender::Policy;

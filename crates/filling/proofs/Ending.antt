@@ -1,6 +1,6 @@
 -- The flows, the end of a run and a refusal, line by line; the records, then the end; a whole report. Assumes nothing.
 use Prim.Native.Nat.{ℕ, zero, suc, ◌+◌, ◌-◌, ◌≤◌, ◌<◌}
-use native.Mathlib.Nat.{zero-add, add_zero}
+use native.Mathlib.Nat.{zero-add, add-zero}
 use native.Mathlib.Omega.{arith}
 use mathlib.Core.Bool.{Bool, true, false, cond, true≢false}
 use mathlib.Core.List.{List, [], ◌∷◌, ◌++◌}
@@ -62,11 +62,11 @@ module _ (s : Simulation) (i : ℕ) where
 
       pub flow-full : x ≡ Put.Full → PutBy (filled_by (rest_at s (Stage.Flows i))) (flows_from s i) d at (record { at = at; done = false; report = report_at (Stage.Flows i) s }) mid
       unfolding flows_at
-      flow-full e = rw (flows_more h) (put_full (filled_by (rest_at s (Stage.Flows i))) _ _ d at x mid this e _ (rw (add_zero i, lt-ltb i (flow_count s) h)))
+      flow-full e = rw (flows_more h) (put_full (filled_by (rest_at s (Stage.Flows i))) _ _ d at x mid this e _ (rw (add-zero i, lt-ltb i (flow_count s) h)))
 
     pub flows_done : flow_count s ≤ i → PutBy (filled_by (rest_at s (Stage.Flows i))) (flows_from s i) d at (record { at = at; done = true; report = report_at Stage.Done s }) d
     unfolding flows_at
-    flows_done h = put_none (filled_by (rest_at s (Stage.Flows i))) (flows_from s i) d at (flows_none h) _ (rw (add_zero i, le-ltb i (flow_count s) h))
+    flows_done h = put_none (filled_by (rest_at s (Stage.Flows i))) (flows_from s i) d at (flows_none h) _ (rw (add-zero i, le-ltb i (flow_count s) h))
 
 -- ---- the end
 

@@ -1,6 +1,6 @@
 -- The lines of a report after its first k lines are its other lines. Assumes nothing.
 use Prim.Native.Nat.{ℕ, zero, suc, ◌+◌, ◌-◌, ◌≤◌, ◌<◌}
-use native.Mathlib.Nat.{zero-add, add_zero}
+use native.Mathlib.Nat.{zero-add, add-zero}
 use native.Mathlib.Omega.{arith}
 use mathlib.Core.Bool.{Bool, true, false, cond}
 use mathlib.Core.List.{List, [], ◌∷◌, ◌++◌}
@@ -32,7 +32,7 @@ use Rattle.filling.proofs.Ending.{flows_none}
 
 flow-lines_drop : (s : Simulation) (left i k : ℕ) → flow_lines s (left - k) (i + k) ≡ drop k (flow_lines s left i)
 unfolding flow_lines
-flow-lines_drop s left i zero = let all : left - 0 ≡ left = omega arith in rw (all, add_zero i)
+flow-lines_drop s left i zero = let all : left - 0 ≡ left = omega arith in rw (all, add-zero i)
 flow-lines_drop s zero i (suc k) = let none : 0 - suc k ≡ 0 = omega arith in rw none
 flow-lines_drop s (suc left) i (suc k) =
     let less : suc left - suc k ≡ left - k = omega arith in

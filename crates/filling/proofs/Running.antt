@@ -1,6 +1,6 @@
 -- The records of a run, batch by batch. Assumes nothing.
 use Prim.Native.Nat.{ℕ, zero, suc, ◌+◌, ◌-◌, ◌*◌, ◌≤◌, ◌<◌}
-use native.Mathlib.Nat.{zero-add, add_zero}
+use native.Mathlib.Nat.{zero-add, add-zero}
 use native.Mathlib.Numerals.{add-one}
 use native.Mathlib.Omega.{arith}
 use mathlib.Core.Bool.{Bool, true, false, cond}
@@ -66,7 +66,7 @@ module _ (m : ℕ) (s : Simulation) (e : (run_of m s).done ≡ m) where
 
   number_then : (j : ℕ) → (run_of (m + j) s).number ≡ (run_of j (run_of m s).simulation).number
   unfolding run_of
-  number_then zero = rw (add_zero m) zero_number
+  number_then zero = rw (add-zero m) zero_number
   number_then (suc j) = sym ((runs_join m (suc j) s).number (omega arith))
 
   -- a run of more after its first m lines and k others
@@ -155,13 +155,13 @@ module _ (done : ℕ) (records : List Noted) (i : ℕ) (few : done ≤ length re
         (λ (p : Puts). let more : i + 1 + p.count ≡ i + (1 + p.count) = omega arith in ap (λ (k : ℕ). record { count = k; at = p.at }) more) r after v))
 
     pub note_full : x ≡ Put.Full → PutBy (λ (p : Puts). batch_by (further i p)) (map noted_line (drop i (take done records))) d at (record { count = i; at = at }) mid
-    note_full e = rw notes_more (put_full (λ (p : Puts). batch_by (further i p)) _ _ d at x mid w e _ (rw (add_zero i)))
+    note_full e = rw notes_more (put_full (λ (p : Puts). batch_by (further i p)) _ _ d at x mid w e _ (rw (add-zero i)))
 
   pub notes_end : done ≤ i → (d : List ℕ) (at : ℕ) → PutBy (λ (p : Puts). batch_by (further i p)) (map noted_line (drop i (take done records))) d at (record { count = i; at = at }) d
   notes_end h d at =
       let long = notes_long in
       let none : drop i (take done records) ≡ [] = drop_of_length-le (take done records) {i = i} (omega (arith, long, h)) in
-      put_none (λ (p : Puts). batch_by (further i p)) _ d at (ap (map noted_line) none) _ (rw (add_zero i))
+      put_none (λ (p : Puts). batch_by (further i p)) _ d at (ap (map noted_line) none) _ (rw (add-zero i))
 
 pub notes_all : (done : ℕ) (records : List Noted) (d : List ℕ) (at : ℕ)
     → From batch_by (map noted_line (take done records)) d at (λ (p : Puts). batch_by (further 0 p)) (map noted_line (drop 0 (take done records))) d at

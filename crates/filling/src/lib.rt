@@ -1,5 +1,6 @@
 // The lines of a report put into a lent buffer, in one go or part by part (document 01, "The text
 // program").
+#![tactic(auto)]
 ghost use Rattle.std.specs.Prelude.{◌≤◌, ◌≡◌, [], ◌∷◌, map, ltb, take};
 ghost use Rattle.remy.specs.Run.{batch_of};
 ghost use Rattle.printer.specs.Printing.{refused_text};
@@ -14,7 +15,7 @@ use remy::{Noted, Simulation};
 use report::{Report, Stage, report_of};
 
 // A buffer filled up to a position, whether nothing is left, and the report of what is left.
-#[derive(Drop)]
+#[derive(Clone, Copy)]
 pub struct Filled {
     pub at: usize,
     pub done: bool,
@@ -22,7 +23,7 @@ pub struct Filled {
 }
 
 // How many records were put, and the position after them.
-#[derive(Drop)]
+#[derive(Clone, Copy)]
 struct Batch {
     count: u32,
     at: usize,

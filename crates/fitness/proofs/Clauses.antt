@@ -8,7 +8,7 @@ use native.Mathlib.Omega.{arith}
 use lib.Dec.{leb, ltb, eqb}
 use Rattle.quantities.specs.declared.time.OptionTime.{OptionTime}
 use Rattle.quantities.specs.declared.time.OptionTime.TheVariants.{None, Some}
-use Rattle.rand.specs.Generator.{all_zero}
+use Rattle.draws.specs.Generator.{all_zero}
 use Rattle.meters.specs.Meter.{is_on, total_fit, sum_fit}
 use Rattle.link.specs.declared.packet.Packet.{Packet}
 use Rattle.toggler.specs.declared.tick_queue.Queued.{Queued}

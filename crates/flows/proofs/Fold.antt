@@ -3,7 +3,7 @@ use mathlib.Core.Path.{◌≡◌, refl, ap, ap₂, ◌∙◌}
 use mathlib.Core.Bool.{Bool, true, false, ◌&&◌, cond, and-true, and-false, and_assoc}
 use mathlib.Core.List.{List, [], ◌∷◌}
 use Prim.Native.Nat.{ℕ, suc, ◌+◌, ◌≤◌, ◌<◌}
-use native.Mathlib.Nat.{zero-add, add_zero}
+use native.Mathlib.Nat.{zero-add, add-zero}
 use native.Mathlib.Omega.{arith}
 use borrow.Author.Tests.{le-leb, lt-leb, ne_eqb, ltb-true, ltb-false}
 use lib.ListN.{length}
@@ -100,8 +100,8 @@ step n k rate rtt f fs h m true e true g next =
 fold_is : (n k : ℕ) (rate rtt : Float) (fs : List FlowProperties) → k ≤ n → n ≤ 65536
     → folded (sums n k rate rtt) fs ≡ cond (leb (n + length fs) 65536 && members_fit fs) (with_lists n k rate rtt (length fs) (rates fs) (rtts fs)) refused_sum
 fold_is n k rate rtt [] h m =
-    let none : n + 0 ≡ n = add_zero n in
-    let nothing : k + 0 ≡ k = add_zero k in
+    let none : n + 0 ≡ n = add-zero n in
+    let nothing : k + 0 ≡ k = add-zero k in
     rw (none, nothing, le-leb n 65536 m)
 fold_is n k rate rtt (f ∷ fs) h m =
     step n k rate rtt f fs h m (ltb n 65536) refl (member_fit f) refl

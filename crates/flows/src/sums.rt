@@ -9,7 +9,7 @@ use quantities::{InformationRate, TimeSpan};
 // The sums of the flow records taken so far: a number of document 01 (0, or 17 once a record is
 // refused), how many there are, the sum of their throughputs, how many of them have a round-trip
 // time, and the sum of those.
-#[derive(Drop)]
+#[derive(Clone, Copy)]
 pub struct FlowSum {
     pub number: u32,
     pub count: u32,
@@ -19,7 +19,7 @@ pub struct FlowSum {
 }
 
 // The mean of a list of flow records.
-#[derive(Drop)]
+#[derive(Clone, Copy)]
 pub enum Mean {
     Average(FlowProperties),
     Refused,

@@ -7,7 +7,7 @@ use crate::read::{double, moment, narrow, network_at, size, time_if_any};
 use link::{Line, Packet, Ring, Transit, Waiting};
 use meters::AverageFlowMeter;
 use quantities::{Information, TimeSpan};
-use rand::Rng;
+use draws::Rng;
 use remy::{Head, Next, Simulation};
 use script::{absent, number};
 use sender::{Enabled, LossySender, SenderState};

@@ -22,6 +22,7 @@
 // 36 fields: delay, rate, loss, limit, the bits of 16 senders, how many there are; on and off, each a
 // kind (0 always, 1 uniform) and two doubles; the policy's kind (0 held, 1 grown, 2 timed), two numbers
 // and the gap; 1 for a return line or 0 for none, and its delay, rate, loss and limit.
+#![tactic(auto)]
 ghost use Rattle.std.specs.Prelude.{◌≡◌, length};
 
 mod edit;

@@ -6,7 +6,7 @@ use flows::{FlowProperties, Rtt};
 use link::{Line, Packet, Ring, Transit, Waiting};
 use meters::{AverageFlowMeter, FlowRead};
 use quantities::{OptionTime, Time};
-use rand::Rng;
+use draws::Rng;
 use reading::SenderFlow;
 use remy::{Head, Mark, Name, Next, ReturnLine, Simulation, TickRecord};
 use sender::{LossySender, SenderState};

@@ -4,7 +4,7 @@ ghost use Rattle.std.specs.Prelude.{◌<◌};
 use link::{Limit, LineValues};
 use quantities::float::from_bits;
 use quantities::{OptionTime, Time, TimeSpan};
-use rand::ContinuousDistribution;
+use draws::ContinuousDistribution;
 use remy::{RemyNetwork, ReturnLine};
 use script::{absent, number};
 use sender::Policy;

@@ -3,7 +3,7 @@ ghost use Rattle.std.specs.Prelude.{◌<◌};
 
 use quantities::float::to_bits;
 
-#[derive(Drop)]
+#[derive(Clone, Copy)]
 pub(crate) struct Sink {
     pub shown: bool,
     pub digest: u64,

@@ -3,7 +3,7 @@
 use crate::print::{pair, state};
 use crate::sink::{Sink, decimal, double, folded, hex, put};
 use link::{Limit, Line, LineValues, Ring};
-use rand::ContinuousDistribution;
+use draws::ContinuousDistribution;
 use remy::{RemyNetwork, ReturnLine, Simulation};
 use sender::Policy;
 

@@ -3,7 +3,7 @@
 use mathlib.Core.Path.{◌≡◌, refl, sym, ap, ap₂, ◌∙◌}
 use mathlib.Core.List.{List, [], ◌∷◌, ◌++◌}
 use Prim.Native.Nat.{ℕ, zero, suc, ◌+◌, ◌*◌, ◌-◌, ◌%◌, ◌≤◌, ◌<◌}
-use native.Mathlib.Nat.{add_zero}
+use native.Mathlib.Nat.{add-zero}
 use native.Mathlib.Numerals.{add-one}
 use native.Mathlib.Omega.{arith}
 use lib.ListN.{length, get_or, set, length-set}
@@ -33,7 +33,7 @@ module _ {A : Type 0} (d : A) (slots : List A) (l : ℕ) where
 
   from_at : (at n i : ℕ) → i < n → get_or (items_from d slots l at n) i d ≡ get_or slots (slot_of l ((at + i) % places)) d
   from_at at zero i h = absurd (omega arith)
-  from_at at (suc n) zero h = rw add_zero
+  from_at at (suc n) zero h = rw add-zero
   from_at at (suc n) (suc i) h =
       let e : (at + 1 + i) % places ≡ (at + suc i) % places = omega arith in
       rw (← e) (from_at (at + 1) n i (omega arith))
@@ -45,7 +45,7 @@ module _ {A : Type 0} (d : A) (slots : List A) (l : ℕ) where
 
   -- one item more stands at the end
   from_end : (at n : ℕ) → items_from d slots l at (suc n) ≡ items_from d slots l at n ++ (get_or slots (slot_of l ((at + n) % places)) d ∷ [])
-  from_end at zero = rw add_zero
+  from_end at zero = rw add-zero
   from_end at (suc n) =
       let e : (at + 1 + n) % places ≡ (at + suc n) % places = omega arith in
       ap (λ (xs : List A). get_or slots (slot_of l (at % places)) d ∷ xs) (rw (← e) (from_end (at + 1) n))

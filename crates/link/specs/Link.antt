@@ -9,7 +9,7 @@ use Rattle.quantities.specs.declared.time_span.TimeSpan.{TimeSpan}
 use Rattle.quantities.specs.declared.information.Information.{Information}
 use Rattle.quantities.specs.declared.information_rate.InformationRate.{InformationRate}
 use Rattle.quantities.specs.Units.{amount_of, amount_over_rate, span_after, latest_of, earliest_opt_of}
-use Rattle.rand.specs.Draws.{unit_of}
+use Rattle.draws.specs.Draws.{unit_of}
 use Rattle.link.specs.declared.packet.Waiting.{Waiting}
 use Rattle.link.specs.declared.packet.Transit.{Transit}
 use Rattle.link.specs.declared.link.Limit.{Limit}

@@ -5,10 +5,10 @@ use crate::packet::{Packet, Transit, Waiting};
 use crate::ring::Ring;
 use quantities::time::{earliest_opt, latest};
 use quantities::{Information, InformationRate, OptionTime, Time, TimeSpan};
-use rand::Rng;
+use draws::Rng;
 
 // The most bits that may wait, if there is a limit.
-#[derive(Drop)]
+#[derive(Clone, Copy)]
 pub enum Limit {
     None,
     Bits(u64),
@@ -16,7 +16,7 @@ pub enum Limit {
 
 // A line's own values: its delay in seconds, its rate in bits per second, its loss, and the most bits
 // that may wait.
-#[derive(Drop)]
+#[derive(Clone, Copy)]
 pub struct LineValues {
     pub delay: f64,
     pub rate: f64,
@@ -26,7 +26,7 @@ pub struct LineValues {
 
 // What a link holds beside its packets: when the next packet may start, the waiting bits, the rings
 // of the packets that wait and of those on the line, and its generator.
-#[derive(Drop)]
+#[derive(Clone, Copy)]
 pub struct Line {
     pub earliest_transmit: Time,
     pub buffer_contains: Information,
@@ -36,7 +36,7 @@ pub struct Line {
 }
 
 // What an arrival does: the number (0 or 12), whether the packet is admitted, and the line after it.
-#[derive(Drop)]
+#[derive(Clone, Copy)]
 pub struct Arrival {
     pub number: u32,
     pub admitted: bool,
@@ -44,28 +44,28 @@ pub struct Arrival {
 }
 
 // The packet that leaves the line, if any: lost, or handed over.
-#[derive(Drop)]
+#[derive(Clone, Copy)]
 pub enum Left {
     Nobody,
     Lost(Packet),
     Out(Packet),
 }
 
-#[derive(Drop)]
+#[derive(Clone, Copy)]
 pub struct Delivered {
     pub left: Left,
     pub line: Line,
 }
 
 // The packet that starts, if any.
-#[derive(Drop)]
+#[derive(Clone, Copy)]
 pub enum Begun {
     Nobody,
     Starts(Transit),
 }
 
 // What a start does: the number (0 or 13), the packet that starts, and the line after it.
-#[derive(Drop)]
+#[derive(Clone, Copy)]
 pub struct Transmitted {
     pub number: u32,
     pub begun: Begun,
@@ -176,7 +176,7 @@ pub fn try_deliver(line: Line, clock: Time, front: Transit, loss: f64) -> Delive
     let buffer_contains = line.buffer_contains;
     let waiting = line.waiting;
     let on_line = line.on_line.pop();
-    let drawn = rand::distribution::sample_unit(line.rng);
+    let drawn = draws::distribution::sample_unit(line.rng);
     let rng = drawn.rng;
     let packet = front.packet;
     let line = Line {

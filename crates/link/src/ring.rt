@@ -4,7 +4,7 @@ ghost use Rattle.link.specs.Ring.{place_after, pushed, popped};
 // The start and the count of a ring of 512 places. Its slots lie in an array of the owner's, from
 // 512 l on for ring l: the item that is pushed goes to the place that `end` gives, and the first item
 // lies at `start`.
-#[derive(Drop)]
+#[derive(Clone, Copy)]
 pub struct Ring {
     pub start: usize,
     pub count: usize,

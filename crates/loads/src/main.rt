@@ -6,6 +6,7 @@
 //
 // It prints how many texts were given, how many were malformed, and a sum that each number of each
 // description has a part in. The file stdout beside src/ holds what the Rust oracle answers.
+#![tactic(auto)]
 use description::{Description, Distribution, Limit, Policy, ReadDescription};
 use script::number;
 
@@ -16,7 +17,7 @@ pub const MOST: u64 = 0xffff_ffff_ffff_ffff;
 pub const HEAD: usize = 19;
 
 // What was read so far.
-#[derive(Drop)]
+#[derive(Clone, Copy)]
 struct Tally {
     given: u64,
     malformed: u64,

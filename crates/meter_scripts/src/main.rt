@@ -14,6 +14,7 @@
 // E, D and R answer their letter, the number and the meter after it; Q and M their letter, the
 // number and, at 0, the rate and the RTT. E, D and R, and M of a list of at most 64, are carried out
 // twice, by value and over what is lent; a line "differs" follows where the two are not the same.
+#![tactic(auto)]
 ghost use Rattle.std.specs.Prelude.{◌≡◌, ◌≤◌, take};
 ghost use Rattle.flows.specs.Average.{average_of, told_mean};
 
@@ -26,7 +27,7 @@ use script::{absent, byte_at, next_line, number};
 
 // The meter, the sums and the list that the commands work on. The list has the first 64 flows; a
 // count of 65 is more than these.
-#[derive(Drop)]
+#[derive(Clone, Copy)]
 struct Bench {
     meter: AverageFlowMeter,
     sum: FlowSum,

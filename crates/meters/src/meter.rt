@@ -9,7 +9,7 @@ use quantities::{Information, OptionTime, Time, TimeSpan};
 // What a sender's flow did so far: how long it was enabled before it was last switched off, since
 // when it is on, the bits counted, how many packets were counted, and the sum of their round-trip
 // times.
-#[derive(Drop)]
+#[derive(Clone, Copy)]
 pub struct AverageFlowMeter {
     pub total_time: TimeSpan,
     pub current_start: OptionTime,
@@ -20,21 +20,21 @@ pub struct AverageFlowMeter {
 
 // A packet that was received: its bits, and its round-trip time. One value, so that a record has two
 // parameters beside the meter, as a switch has, and one walk proves both over a lent meter.
-#[derive(Drop)]
+#[derive(Clone, Copy)]
 pub struct Reception {
     pub data: Information,
     pub rtt: TimeSpan,
 }
 
 // A number of document 01 (0 or 18), and the meter: changed at 0, else as it was.
-#[derive(Drop)]
+#[derive(Clone, Copy)]
 pub struct Metered {
     pub number: u32,
     pub meter: AverageFlowMeter,
 }
 
 // What a read gives.
-#[derive(Drop)]
+#[derive(Clone, Copy)]
 pub enum FlowRead {
     Properties(FlowProperties),
     // The enabled time is 0.

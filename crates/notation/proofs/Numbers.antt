@@ -2,7 +2,7 @@
 use Prim.Native.Nat.{ℕ, ◌-◌, ◌^◌, ◌≤◌, ◌<◌}
 use mathlib.Core.List.{List, [], ◌∷◌, ◌++◌, append_assoc, cons-eq-cons}
 use mathlib.Core.Path.{◌≡◌, sym, ap, ◌∙◌}
-use native.Mathlib.Nat.{lt_of_lt_of_le, add_zero}
+use native.Mathlib.Nat.{lt_of_lt_of_le, add-zero}
 use native.Mathlib.Omega.{arith}
 use lib.Dec.{lit≤}
 use lib.ListN.{length, drop, get_or, length-append, length-drop, get_or-append}
@@ -77,7 +77,7 @@ module _ {b most v n : ℕ} {text : List ℕ} {at : ℕ} (p : SomeDigits b most 
 
   some_first : get_or text at 0 ≡ get_or p.digits 0 0
   some_first =
-      ap (λ (k : ℕ). get_or text k 0) (sym (add_zero at))
+      ap (λ (k : ℕ). get_or text k 0) (sym (add-zero at))
       ∙ sym (get_or-drop at text 0 0)
       ∙ ap (λ (s : List ℕ). get_or s 0 0) p.here
       ∙ get_or-append p.digits (drop n text) 0 0 (omega (arith, p.count))

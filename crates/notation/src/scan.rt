@@ -4,14 +4,14 @@ ghost use Rattle.std.specs.Prelude.{◌≤◌, ◌<◌, ◌≡◌, [], ◌∷◌
 ghost use Rattle.notation.specs.Reading.{Reads, ReadsDigits, ReadsWord, ReadsKey, DigitIs, NoDigit, placed, numbered, led_by_zero, is_letter, word_form, hex_form, decimal_form};
 
 // The position after what was read.
-#[derive(Drop)]
+#[derive(Clone, Copy)]
 pub enum Place {
     At(usize),
     Refused,
 }
 
 // A value, and the position after it.
-#[derive(Drop)]
+#[derive(Clone, Copy)]
 pub enum Number {
     At(u64, usize),
     Refused,

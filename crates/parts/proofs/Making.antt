@@ -5,10 +5,10 @@ use mathlib.Core.List.{List}
 use native.Mathlib.Omega.{arith}
 use lib.ListN.{set}
 use borrow.Author.Tests.{ne_eqb}
-use Rattle.rand.specs.declared.generator.Rng.{Rng}
-use Rattle.rand.specs.declared.generator.Child.{Child}
-use Rattle.rand.specs.declared.distribution.ContinuousDistribution.{ContinuousDistribution}
-use Rattle.rand.specs.Generator.{child_of}
+use Rattle.draws.specs.declared.generator.Rng.{Rng}
+use Rattle.draws.specs.declared.generator.Child.{Child}
+use Rattle.draws.specs.declared.distribution.ContinuousDistribution.{ContinuousDistribution}
+use Rattle.draws.specs.Generator.{child_of}
 use Rattle.sender.specs.declared.lossy.LossySender.{LossySender}
 use Rattle.toggler.specs.declared.toggler.Toggler.{Toggler}
 use Rattle.toggler.specs.declared.toggler.Toggled.{Toggled}

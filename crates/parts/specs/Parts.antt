@@ -1,6 +1,6 @@
 -- The parts that the code makes, as those of the build's definition. Definitions only.
 use Rattle.std.specs.Prelude.{List}
-use Rattle.rand.specs.declared.generator.Rng.{Rng}
+use Rattle.draws.specs.declared.generator.Rng.{Rng}
 use Rattle.sender.specs.declared.lossy.LossySender.{LossySender}
 use Rattle.toggler.specs.declared.toggler.Toggler.{Toggler}
 use Rattle.remy.specs.Build.{Parts}

@@ -2,20 +2,21 @@
 // of a return line, what places hold where nothing is; and what the empty simulation is made of.
 //
 // All functions here are helpers for the crate `builder`, and no entry points.
+#![tactic(auto)]
 ghost use Rattle.std.specs.Prelude.{◌≡◌, ◌≤◌};
 ghost use Rattle.remy.specs.Build.{new_line, new_sender, blank_packet, blank_waiting, blank_transit, blank_toggler, blank_words, no_parts, populate, back_words, empty_network, empty_words};
 ghost use Rattle.parts.specs.Parts.{told_parts};
 
 use link::{Limit, Line, LineValues, Packet, Ring, Transit, Waiting};
 use quantities::{Information, Time, TimeSpan};
-use rand::{ContinuousDistribution, Rng};
+use draws::{ContinuousDistribution, Rng};
 use remy::{RemyNetwork, ReturnLine};
 use sender::{LossySender, Policy, SenderState};
 use toggler::{Toggler, create};
 
 // The senders and togglers of a build, the root after them, and the number: 8 where a first toggle's
 // draw was spent, with those made so far.
-#[derive(Drop)]
+#[derive(Clone, Copy)]
 pub struct Made {
     pub number: u32,
     pub root: Rng,

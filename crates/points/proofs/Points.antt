@@ -14,10 +14,10 @@ use Rattle.quantities.specs.Doubles.{zero_f, power}
 use Rattle.quantities.specs.Units.{amount_of}
 use Rattle.quantities.proofs.Order.{lt_irrefl}
 use Rattle.quantities.proofs.Uniform.{sample-fine}
-use Rattle.rand.specs.declared.generator.Rng.{Rng}
-use Rattle.rand.specs.Generator.{output_of, moved_on, all_zero, replaced, from_words}
-use Rattle.rand.specs.Draws.{sample_of, unit_of, uniform_of, draw_of, redraw}
-use Rattle.rand.proofs.Redraw.{again}
+use Rattle.draws.specs.declared.generator.Rng.{Rng}
+use Rattle.draws.specs.Generator.{output_of, moved_on, all_zero, replaced, from_words}
+use Rattle.draws.specs.Draws.{sample_of, unit_of, uniform_of, draw_of, redraw}
+use Rattle.draws.proofs.Redraw.{again}
 use Rattle.meters.specs.Meter.{new_meter, start_fit, meter_fit, ready, switched_of, enabled_time, read_of}
 use Rattle.link.specs.declared.packet.Packet.{Packet}
 use Rattle.link.specs.declared.packet.Transit.{Transit}

@@ -2,7 +2,7 @@
 use mathlib.Core.Path.{◌≡◌, refl}
 use lib.Ieee.{of_bits, lt, le}
 use Rattle.quantities.specs.Doubles.{zero_f}
-use Rattle.rand.specs.declared.distribution.ContinuousDistribution.TheVariants.{Uniform}
+use Rattle.draws.specs.declared.distribution.ContinuousDistribution.TheVariants.{Uniform}
 use Rattle.remy.specs.Network.{network_stop}
 use Rattle.remy.specs.Build.{not_built, build_of}
 use Rattle.remy.proofs.Opened.{building}

@@ -4,10 +4,10 @@ use mathlib.Core.Bool.{false, false≢true}
 use mathlib.Core.List.{[], ◌∷◌}
 use Prim.Native.Nat.{ℕ, ◌+◌, ◌≤◌}
 use native.Mathlib.Omega.{arith}
-use Rattle.rand.specs.declared.generator.Rng.{Rng}
-use Rattle.rand.specs.Generator.{words_of, all_zero, from_words}
-use Rattle.rand.proofs.ZeroWords.{zero_words}
-use Rattle.rand.specs.Generator.{from_seed}
+use Rattle.draws.specs.declared.generator.Rng.{Rng}
+use Rattle.draws.specs.Generator.{words_of, all_zero, from_words}
+use Rattle.draws.proofs.ZeroWords.{zero_words}
+use Rattle.draws.specs.Generator.{from_seed}
 use Rattle.remy.specs.State.{line_at, sender_at, toggler_at}
 use Rattle.remy.specs.Build.{build_of}
 use Rattle.remy.proofs.Opened.{draws, building, fitting}

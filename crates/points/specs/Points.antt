@@ -5,11 +5,11 @@ use Rattle.quantities.specs.declared.time.Time.{Time}
 use Rattle.quantities.specs.declared.time.OptionTime.TheVariants.{Some}
 use Rattle.quantities.specs.Doubles.{zero_f, power}
 use Rattle.quantities.specs.Units.{time_of, amount_of}
-use Rattle.rand.specs.declared.generator.Rng.{Rng}
-use Rattle.rand.specs.declared.distribution.ContinuousDistribution.{ContinuousDistribution}
-use Rattle.rand.specs.declared.distribution.ContinuousDistribution.TheVariants.{Uniform}
-use Rattle.rand.specs.Generator.{from_words, output_of, moved_on}
-use Rattle.rand.specs.Draws.{sample_of, unit_of, draw_of, redraw}
+use Rattle.draws.specs.declared.generator.Rng.{Rng}
+use Rattle.draws.specs.declared.distribution.ContinuousDistribution.{ContinuousDistribution}
+use Rattle.draws.specs.declared.distribution.ContinuousDistribution.TheVariants.{Uniform}
+use Rattle.draws.specs.Generator.{from_words, output_of, moved_on}
+use Rattle.draws.specs.Draws.{sample_of, unit_of, draw_of, redraw}
 use Rattle.meters.specs.Meter.{new_meter, switched_of, read_of}
 use Rattle.link.specs.declared.packet.Packet.{Packet}
 use Rattle.link.specs.declared.packet.Transit.{Transit}

@@ -3,8 +3,8 @@ use Rattle.std.specs.Prelude.{◌≡◌, true, false, List, [], ◌∷◌, ℕ, 
 use Rattle.std.specs.Float.{nan, inf, fin, binary64}
 use Rattle.std.specs.Float.Ieee.{of_bits}
 use Rattle.quantities.specs.Doubles.{zero_f, power}
-use Rattle.rand.specs.declared.distribution.ContinuousDistribution.{ContinuousDistribution}
-use Rattle.rand.specs.declared.distribution.ContinuousDistribution.TheVariants.{Always, Uniform}
+use Rattle.draws.specs.declared.distribution.ContinuousDistribution.{ContinuousDistribution}
+use Rattle.draws.specs.declared.distribution.ContinuousDistribution.TheVariants.{Always, Uniform}
 use Rattle.link.specs.declared.link.Limit.{Limit}
 use Rattle.link.specs.declared.link.Limit.TheVariants as Limit
 use Rattle.link.specs.declared.link.LineValues.{LineValues}

@@ -4,8 +4,8 @@ use Rattle.std.specs.Prelude.{◌≡◌, List, [], ◌∷◌, ℕ, replicate}
 use Rattle.quantities.specs.declared.time.Time.{Time}
 use Rattle.quantities.specs.declared.time.OptionTime.{OptionTime}
 use Rattle.quantities.specs.declared.time.OptionTime.TheVariants.{None, Some}
-use Rattle.rand.specs.declared.distribution.ContinuousDistribution.TheVariants.{Always}
-use Rattle.rand.specs.Generator.{from_words}
+use Rattle.draws.specs.declared.distribution.ContinuousDistribution.TheVariants.{Always}
+use Rattle.draws.specs.Generator.{from_words}
 use Rattle.link.specs.declared.link.Limit.TheVariants as Limit
 use Rattle.sender.specs.declared.lossy.Policy.{Policy}
 use Rattle.sender.specs.declared.lossy.Policy.TheVariants.{Held, Grown, Timed}

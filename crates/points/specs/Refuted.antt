@@ -5,7 +5,7 @@ use Rattle.std.specs.Float.{fin}
 use Rattle.quantities.specs.declared.time.OptionTime.TheVariants.{None, Some}
 use Rattle.quantities.specs.Doubles.{zero_f, power}
 use Rattle.quantities.specs.Units.{span_of, time_of, amount_of, span_after}
-use Rattle.rand.specs.declared.distribution.ContinuousDistribution.TheVariants.{Always}
+use Rattle.draws.specs.declared.distribution.ContinuousDistribution.TheVariants.{Always}
 use Rattle.meters.specs.Meter.{new_meter}
 use Rattle.link.specs.declared.link.Limit.{Limit}
 use Rattle.link.specs.declared.link.Limit.TheVariants as Limit

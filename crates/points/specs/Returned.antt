@@ -6,8 +6,8 @@ use Rattle.quantities.specs.declared.time.OptionTime.TheVariants as Option
 use Rattle.quantities.specs.declared.time.OptionTime.TheVariants.{Some}
 use Rattle.quantities.specs.Doubles.{zero_f, power, least}
 use Rattle.quantities.specs.Units.{span_of, time_of, amount_of}
-use Rattle.rand.specs.declared.distribution.ContinuousDistribution.TheVariants.{Always}
-use Rattle.rand.specs.Generator.{from_words}
+use Rattle.draws.specs.declared.distribution.ContinuousDistribution.TheVariants.{Always}
+use Rattle.draws.specs.Generator.{from_words}
 use Rattle.meters.specs.Meter.{new_meter}
 use Rattle.link.specs.declared.packet.Packet.{Packet}
 use Rattle.link.specs.declared.packet.Waiting.{Waiting}

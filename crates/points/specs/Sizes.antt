@@ -5,9 +5,9 @@ use Rattle.std.specs.Float.{fin}
 use Rattle.quantities.specs.declared.time.OptionTime.TheVariants.{None, Some}
 use Rattle.quantities.specs.Doubles.{zero_f, power}
 use Rattle.quantities.specs.Units.{span_of, time_of, amount_of}
-use Rattle.rand.specs.declared.generator.Rng.{Rng}
-use Rattle.rand.specs.Generator.{from_words}
-use Rattle.rand.specs.declared.distribution.ContinuousDistribution.TheVariants.{Always}
+use Rattle.draws.specs.declared.generator.Rng.{Rng}
+use Rattle.draws.specs.Generator.{from_words}
+use Rattle.draws.specs.declared.distribution.ContinuousDistribution.TheVariants.{Always}
 use Rattle.meters.specs.declared.meter.AverageFlowMeter.{AverageFlowMeter}
 use Rattle.meters.specs.Meter.{new_meter}
 use Rattle.link.specs.declared.packet.Waiting.{Waiting}

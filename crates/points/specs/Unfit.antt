@@ -7,9 +7,9 @@ use Rattle.quantities.specs.declared.time.OptionTime.{OptionTime}
 use Rattle.quantities.specs.declared.time.OptionTime.TheVariants.{None, Some}
 use Rattle.quantities.specs.Doubles.{zero_f, power, largest}
 use Rattle.quantities.specs.Units.{span_of, time_of, amount_of}
-use Rattle.rand.specs.declared.distribution.ContinuousDistribution.TheVariants.{Always}
-use Rattle.rand.specs.declared.generator.Rng.{Rng}
-use Rattle.rand.specs.Generator.{all_zero, from_words}
+use Rattle.draws.specs.declared.distribution.ContinuousDistribution.TheVariants.{Always}
+use Rattle.draws.specs.declared.generator.Rng.{Rng}
+use Rattle.draws.specs.Generator.{all_zero, from_words}
 use Rattle.meters.specs.Meter.{new_meter}
 use Rattle.link.specs.declared.packet.Packet.{Packet}
 use Rattle.link.specs.declared.packet.Waiting.{Waiting}

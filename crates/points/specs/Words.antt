@@ -1,10 +1,10 @@
--- Document 02, K5: points of four zero words, as one list of claims. Those that speak of every number follow from `ZeroWords` (the crate `rand`), a claim for each of its
+-- Document 02, K5: points of four zero words, as one list of claims. Those that speak of every number follow from `ZeroWords` (the crate `draws`), a claim for each of its
 -- clauses; the others are computed.
 use Rattle.std.specs.Prelude.{◌≡◌, false, List, [], ◌∷◌, ℕ, ◌+◌, ◌≤◌}
-use Rattle.rand.specs.declared.generator.Rng.{Rng}
-use Rattle.rand.specs.declared.distribution.ContinuousDistribution.{ContinuousDistribution}
-use Rattle.rand.specs.Generator.{words_of, moved_on, from_seed, all_zero, from_words, child_of}
-use Rattle.rand.specs.Draws.{positive_of}
+use Rattle.draws.specs.declared.generator.Rng.{Rng}
+use Rattle.draws.specs.declared.distribution.ContinuousDistribution.{ContinuousDistribution}
+use Rattle.draws.specs.Generator.{words_of, moved_on, from_seed, all_zero, from_words, child_of}
+use Rattle.draws.specs.Draws.{positive_of}
 use Rattle.points.specs.Points.{outputs}
 use Rattle.remy.specs.State.{line_at, sender_at, toggler_at}
 use Rattle.remy.specs.Build.{build_of}

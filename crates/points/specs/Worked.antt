@@ -5,7 +5,7 @@ use Rattle.std.specs.Float.Ieee.{of_bits}
 use Rattle.quantities.specs.declared.time.Time.{Time}
 use Rattle.quantities.specs.Doubles.{zero_f, power}
 use Rattle.quantities.specs.Units.{time_of, span_of, rate_of}
-use Rattle.rand.specs.declared.distribution.ContinuousDistribution.TheVariants.{Always}
+use Rattle.draws.specs.declared.distribution.ContinuousDistribution.TheVariants.{Always}
 use Rattle.flows.specs.declared.flow.Rtt.TheVariants.{Known}
 use Rattle.meters.specs.Meter.{read_of}
 use Rattle.link.specs.declared.link.Limit.TheVariants as Limit

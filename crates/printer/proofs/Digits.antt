@@ -2,7 +2,7 @@
 use Prim.Native.Nat.{ℕ, zero, suc, ◌+◌, ◌/◌, ◌%◌, ◌≤◌, ◌<◌}
 use mathlib.Core.List.{List, [], ◌∷◌, ◌++◌, append_assoc}
 use mathlib.Core.Path.{◌≡◌, sym, ap, ◌∙◌}
-use native.Mathlib.Nat.{add_zero, zero-add, not-suc-le-zero, le_of_suc-le-suc}
+use native.Mathlib.Nat.{add-zero, zero-add, not-suc-le-zero, le_of_suc-le-suc}
 use native.Mathlib.Omega.{arith}
 use lib.ListN.{get_or}
 use Rattle.notation.specs.Notation.{digit_byte, digits_of, decimal_of}
@@ -16,7 +16,7 @@ counted f i (suc n) = f i ∷ counted f (suc i) n
 
 counted-at : (f : ℕ → ℕ) (n i k : ℕ) → k < n → get_or (counted f i n) k 0 ≡ f (i + k)
 counted-at f zero i k h = absurd (not-suc-le-zero h)
-counted-at f (suc n) i zero h = ap f (sym (add_zero i))
+counted-at f (suc n) i zero h = ap f (sym (add-zero i))
 counted-at f (suc n) i (suc k) h = let e : suc i + k ≡ i + suc k = omega arith in counted-at f n (suc i) k (le_of_suc-le-suc h) ∙ ap f e
 
 -- a table of the digits, which a proof compares with the code's by computing it

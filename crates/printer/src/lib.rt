@@ -1,24 +1,25 @@
 // The printed lines, put into a lent buffer at a position.
+#![tactic(auto)]
 ghost use Rattle.std.specs.Prelude.{◌+◌, ◌-◌, ◌≤◌, ◌<◌, ◌≡◌, [], ◌∷◌, ◌++◌, length};
 ghost use Rattle.notation.specs.Notation.{digits_of, hex_of, decimal_of};
 ghost use Rattle.printer.specs.Printing.{Wrote, PutIs, packet_text, measured_text, record_text, stop_text, refused_text, flow_text};
 
 // The position after the line, or too little room.
-#[derive(Drop)]
+#[derive(Clone, Copy)]
 pub enum Put {
     At(usize),
     Full,
 }
 
 // A packet by its sender and sequence, or none.
-#[derive(Drop)]
+#[derive(Clone, Copy)]
 pub enum Named {
     None,
     Packet(u32, u32),
 }
 
 // A double by its bits, or none.
-#[derive(Drop)]
+#[derive(Clone, Copy)]
 pub enum Measured {
     None,
     Bits(u64),

@@ -2,7 +2,7 @@
 -- `le` is reflexive, transitive and total. `lt x y` is `not (le y x)`, and `eq x y` is `le x y` and `le y x`.
 -- `later` is the least double that is at or above both of its arguments, and `earlier` the greatest that is at or below both.
 -- Two doubles that are `eq` and have the same sign are the same datum, and only the two zeros are `eq` with different signs. Assumes nothing.
-use Rattle.std.proofs.Common.{◌≡◌, ℕ, zero, suc, ◌+◌, ◌-◌, ◌*◌, ◌/◌, ◌^◌, ◌≤◌, Bool, true, false, cond, not, ◌&&◌, ◌||◌, T, eqb, ltb, leb, ◌⊎◌, sym, refl, ap, ◌∙◌, subst, ap₂, inl, inr, ⊎_elim, add_zero, mul-le-mul_right, mul_assoc, mul_comm, add-mul, add_comm, suc-add, zero-add, zero-mul, mul_right_comm, le_of_mul-le-mul_right, mul_left_comm, arith, le→leb, eqb→eq, leb→le, T_not}
+use Rattle.std.proofs.Common.{◌≡◌, ℕ, zero, suc, ◌+◌, ◌-◌, ◌*◌, ◌/◌, ◌^◌, ◌≤◌, Bool, true, false, cond, not, ◌&&◌, ◌||◌, T, eqb, ltb, leb, ◌⊎◌, sym, refl, ap, ◌∙◌, subst, ap₂, inl, inr, ⊎_elim, add-zero, mul-le-mul_right, mul_assoc, mul_comm, add-mul, add_comm, suc-add, zero-add, zero-mul, mul_right_comm, le_of_mul-le-mul_right, mul_left_comm, arith, le→leb, eqb→eq, leb→le, T_not}
 use mathlib.Core.Bool.{beq, not-not, and-true, and-false, and_comm}
 use lib.Dec.{leb-zero, leb-suc-zero, leb-suc-suc, eqb-zero-suc, eqb-suc-zero, eqb-suc-suc, not_T}
 use lib.Ieee.{Float, nan, inf, fin, Format, prec, low, up, down, size, hid, top, lt, le, eq, fits, is_nan, to_bits, of_bits}
@@ -66,7 +66,7 @@ finite_tests nan y p q = absurd p
 finite_tests (inf s) y p q = absurd p
 finite_tests (fin s m e) nan p q = absurd q
 finite_tests (fin s m e) (inf t) p q = absurd q
-finite_tests (fin false m e) (fin false n d) p q = (simp (zero-mul, add_zero), simp (zero-mul, add_zero, and-true))
+finite_tests (fin false m e) (fin false n d) p q = (simp (zero-mul, add-zero), simp (zero-mul, add-zero, and-true))
 finite_tests (fin false m e) (fin true n d) p q = (simp (zero-mul, leb-suc-zero), simp zero-mul (both_zero (m * up e * down d) (n * up d * down e)))
 finite_tests (fin true m e) (fin false n d) p q =
     let a = m * up e * down d in

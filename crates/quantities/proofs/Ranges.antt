@@ -74,11 +74,11 @@ add_above f x y h s v t w = rounds_above f h (own x s v) (add_rounds f (own x s 
     go : (a c b d : ℕ) → a * (c * d) ≤ (a * d + b * c) * c
     go a c b d = rw (add-mul (a * d) (b * c) c, mul_assoc a d c, mul_comm d c) (le-add_right (a * (c * d)) (b * c * c))
 
-pub add_zero : (f : Format) (x : Float) → T (fits f x) → T (finite x) → T (le zero_f x) → T (eq (add f x zero_f) x)
-add_zero f x h s v = rounds_eq (add_rounds f (own x s v) zero_is) (fits_rounds f h (own x s v)) (go (num x) (den x))
+pub add-zero_f : (f : Format) (x : Float) → T (fits f x) → T (finite x) → T (le zero_f x) → T (eq (add f x zero_f) x)
+add-zero_f f x h s v = rounds_eq (add_rounds f (own x s v) zero_is) (fits_rounds f h (own x s v)) (go (num x) (den x))
   where
     go : (a c : ℕ) → (a * 1 + 0 * c) * c ≡ a * (c * 1)
-    go a c = simp (zero-mul, mul-one, Nat.add_zero)
+    go a c = simp (zero-mul, mul-one, Nat.add-zero)
 
 -- the range of a sum, from the sum of the ends
 pub add_within : (f : Format) (x x' y y' hi : Float) → Within x x' → Within y y' → T (finite x') → T (finite y')

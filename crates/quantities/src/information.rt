@@ -5,7 +5,7 @@ use crate::information_rate::InformationRate;
 use crate::time_span::TimeSpan;
 
 // An amount, in bits. (The Rust counts whole bytes.)
-#[derive(Drop)]
+#[derive(Clone, Copy)]
 pub struct Information(pub u64);
 
 impl Information {

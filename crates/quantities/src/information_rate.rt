@@ -2,7 +2,7 @@ ghost use Rattle.std.specs.Prelude.{◌≡◌};
 ghost use Rattle.quantities.specs.Units.{rate_over};
 
 // A rate in bits per second.
-#[derive(Drop)]
+#[derive(Clone, Copy)]
 pub struct InformationRate(pub f64);
 
 impl InformationRate {

@@ -3,6 +3,8 @@
 // The types, files and operations follow FlowForge's src/quantities/. Rattle has no operators on
 // structs, so Rust's `a + b` is `a.add(b)`; where Rust divides an amount by two kinds of divisor,
 // the method's name says which.
+#![tactic(auto)]
+
 pub mod float;
 pub mod information;
 pub mod information_rate;

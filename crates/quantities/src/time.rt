@@ -5,11 +5,11 @@ ghost use Rattle.quantities.specs.Units.{time_of, span_after, since, earliest_of
 use crate::time_span::TimeSpan;
 
 // A moment: the span since the start of the simulation.
-#[derive(Drop)]
+#[derive(Clone, Copy)]
 pub struct Time(pub TimeSpan);
 
 // A moment, or none.
-#[derive(Drop)]
+#[derive(Clone, Copy)]
 pub enum OptionTime {
     None,
     Some(Time),

@@ -2,7 +2,7 @@ ghost use Rattle.std.specs.Prelude.{◌≡◌};
 ghost use Rattle.quantities.specs.Units.{span_sum, span_over};
 
 // A duration in seconds.
-#[derive(Drop)]
+#[derive(Clone, Copy)]
 pub struct TimeSpan(pub f64);
 
 impl TimeSpan {

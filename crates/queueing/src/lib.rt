@@ -2,6 +2,7 @@
 // functions on small structs.
 //
 // All functions here are helpers for the crates `advance` and `builder`, and no entry points.
+#![tactic(auto)]
 ghost use Rattle.std.specs.Prelude.{◌≡◌, ◌≤◌};
 ghost use Rattle.remy.specs.State.{has_back, link, role_of, part_count};
 ghost use Rattle.remy.specs.Queue.{part_of, head_of};
@@ -16,7 +17,7 @@ use toggler::{Picked, Queued, Toggler};
 
 // Whose turn it is: a part's, the link's by its line, or nobody's with the number of the stop (0 for
 // idle).
-#[derive(Drop)]
+#[derive(Clone, Copy)]
 pub enum Now {
     Stop(u32),
     Link(usize),

@@ -8,7 +8,7 @@ use lib.ListN.{get_or}
 use lib.Ieee.{le}
 use borrow.Author.Tests.{leb-true, ltb-true, eqb-true}
 use Rattle.quantities.specs.Doubles.{zero_f}
-use Rattle.rand.specs.Generator.{all_zero}
+use Rattle.draws.specs.Generator.{all_zero}
 use Rattle.link.specs.declared.link.Line.{Line}
 use Rattle.link.specs.Ring.{places}
 use Rattle.remy.specs.declared.network.RemyNetwork.{RemyNetwork}

@@ -4,7 +4,7 @@ use Rattle.std.specs.Prelude.{ℕ, zero, suc, ◌≤◌, ◌<◌, Bool, not, ◌
 use Rattle.std.specs.Float.Ieee.{le, eq}
 use Rattle.quantities.specs.declared.time.Time.{Time}
 use Rattle.quantities.specs.Doubles.{zero_f, largest, in_range}
-use Rattle.rand.specs.Generator.{all_zero}
+use Rattle.draws.specs.Generator.{all_zero}
 use Rattle.link.specs.declared.link.Line.{Line}
 use Rattle.link.specs.declared.link.LineValues.{LineValues}
 use Rattle.link.specs.Ring.{places}

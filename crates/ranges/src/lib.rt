@@ -1,5 +1,6 @@
 // The ranges of a network (document 01, "Stops", rows 1 to 7; document 02, K4, 20) and its lines, and the
 // ranges of clock and lines (the paragraph "Unfit").
+#![tactic(auto)]
 ghost use Rattle.std.specs.Prelude.{cond, ◌≡◌};
 ghost use Rattle.remy.specs.Network.{limit_fit, sizes_fit, times_fit, window_fit, policy_fit, back_fit, network_stop};
 ghost use Rattle.ranges.specs.Frame.{values_stop};
@@ -9,7 +10,7 @@ pub mod lines;
 
 use link::{Limit, LineValues};
 use quantities::float::in_range;
-use rand::ContinuousDistribution;
+use draws::ContinuousDistribution;
 use remy::{RemyNetwork, ReturnLine};
 use sender::Policy;
 

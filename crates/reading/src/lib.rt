@@ -1,4 +1,5 @@
 // What is read of a simulation: its time, which is the clock, and the flow of a sender.
+#![tactic(auto)]
 ghost use Rattle.std.specs.Prelude.{◌≡◌};
 ghost use Rattle.reading.specs.Flow.{told_flow, flow_of};
 
@@ -7,7 +8,7 @@ use quantities::Time;
 use remy::Simulation;
 
 // The flow of a sender, if it is there.
-#[derive(Drop)]
+#[derive(Clone, Copy)]
 pub enum SenderFlow {
     NoSender,
     Of(FlowRead),

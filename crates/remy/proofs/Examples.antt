@@ -10,8 +10,8 @@ use lib.Ieee.{Float, nan, fin}
 use Rattle.quantities.specs.declared.time.OptionTime.TheVariants.{Some}
 use Rattle.quantities.specs.Doubles.{zero_f, power}
 use Rattle.quantities.specs.Units.{span_of, time_of, amount_of}
-use Rattle.rand.specs.declared.distribution.ContinuousDistribution.TheVariants.{Always}
-use Rattle.rand.specs.Generator.{from_words}
+use Rattle.draws.specs.declared.distribution.ContinuousDistribution.TheVariants.{Always}
+use Rattle.draws.specs.Generator.{from_words}
 use Rattle.link.specs.declared.link.Limit.{Limit}
 use Rattle.link.specs.declared.link.Limit.TheVariants as Limit
 use Rattle.sender.specs.declared.lossy.Policy.{Policy}

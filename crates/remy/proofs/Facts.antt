@@ -11,7 +11,7 @@ use lib.Dec.{T, leb}
 use lib.Ieee.{Float, le}
 use lib.Ieee.Bits.{is_true}
 use Rattle.quantities.specs.Doubles.{in_range}
-use Rattle.rand.specs.Generator.{all_zero}
+use Rattle.draws.specs.Generator.{all_zero}
 use Rattle.remy.specs.declared.simulation.Simulation.{Simulation}
 use Rattle.remy.specs.Network.{up_to, between}
 use Rattle.remy.specs.State.{line_at, sender_at, toggler_at}

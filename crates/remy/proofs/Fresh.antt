@@ -4,7 +4,7 @@ use mathlib.Core.Path.{◌≡◌, refl, sym, ap, ap₂, ◌∙◌, subst}
 use mathlib.Core.Bool.{Bool, true, false, not, ◌&&◌, ◌||◌}
 use mathlib.Core.List.{List, [], ◌∷◌}
 use Prim.Native.Nat.{ℕ, zero, suc, ◌+◌, ◌/◌, ◌≤◌, ◌<◌}
-use native.Mathlib.Nat.{zero-add, add_zero, zero-mul}
+use native.Mathlib.Nat.{zero-add, add-zero, zero-mul}
 use native.Mathlib.Omega.{arith}
 use borrow.Author.Tests.{eqb-true, eqb-false}
 use lib.Dec.{T, eqb}
@@ -19,12 +19,12 @@ use Rattle.quantities.specs.declared.time.Time.{Time}
 use Rattle.quantities.specs.declared.time.OptionTime.{OptionTime}
 use Rattle.quantities.specs.declared.time.OptionTime.TheVariants.{None, Some}
 use Rattle.quantities.specs.Doubles.{zero_f, power, largest, least}
-use Rattle.rand.specs.declared.generator.Rng.{Rng}
-use Rattle.rand.specs.declared.distribution.ContinuousDistribution.{ContinuousDistribution}
-use Rattle.rand.specs.declared.distribution.ContinuousDistribution.TheVariants.{Always, Uniform}
-use Rattle.rand.specs.Generator.{output_of, from_seed, all_zero, child_of}
-use Rattle.rand.specs.Draws.{sample_of, unit_of, uniform_of, draw_of, PositiveDraw, redraw, positive_of}
-use Rattle.rand.proofs.ZeroWords.{zero_words}
+use Rattle.draws.specs.declared.generator.Rng.{Rng}
+use Rattle.draws.specs.declared.distribution.ContinuousDistribution.{ContinuousDistribution}
+use Rattle.draws.specs.declared.distribution.ContinuousDistribution.TheVariants.{Always, Uniform}
+use Rattle.draws.specs.Generator.{output_of, from_seed, all_zero, child_of}
+use Rattle.draws.specs.Draws.{sample_of, unit_of, uniform_of, draw_of, PositiveDraw, redraw, positive_of}
+use Rattle.draws.proofs.ZeroWords.{zero_words}
 use Rattle.meters.specs.Meter.{new_meter, is_on}
 use Rattle.toggler.proofs.Least.{picked-there, picked-inside, picked-le, picked-nothing}
 use Rattle.link.specs.declared.link.Line.{Line}
@@ -371,7 +371,7 @@ times-length s (suc left) k = ap suc (times-length s left (k + 1))
 times-at : (s : Simulation) (left k i : ℕ) → i < left → (get_or (own_times s left k) i no_queued).time ≡ next_time_of s (k + i)
 unfolding own_times
 times-at s zero k i h = absurd (omega arith)
-times-at s (suc left) k zero h = rw add_zero
+times-at s (suc left) k zero h = rw add-zero
 times-at s (suc left) k (suc i) h =
     let e : k + 1 + i ≡ k + suc i = omega arith in
     rw (← e) (times-at s left (k + 1) i (omega arith))

@@ -4,8 +4,8 @@ use mathlib.Core.List.{List, [], ◌∷◌}
 use Prim.Native.Nat.{ℕ, zero, suc}
 use lib.Dec.{eqb}
 use lib.ListN.{length, get_or}
-use Rattle.rand.specs.declared.generator.Rng.{Rng}
-use Rattle.rand.specs.Generator.{from_seed, child_of}
+use Rattle.draws.specs.declared.generator.Rng.{Rng}
+use Rattle.draws.specs.Generator.{from_seed, child_of}
 use Rattle.link.specs.declared.packet.Transit.{Transit}
 use Rattle.link.specs.Ring.{items}
 use Rattle.toggler.specs.declared.tick_queue.Queued.{Queued}

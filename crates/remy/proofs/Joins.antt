@@ -3,7 +3,7 @@ use mathlib.Core.Path.{◌≡◌, refl, sym, subst, ◌∙◌}
 use mathlib.Core.Logic.{inl, inr}
 use mathlib.Core.Bool.{Bool, true, false, cond}
 use Prim.Native.Nat.{ℕ, zero, suc, ◌+◌, ◌<◌}
-use native.Mathlib.Nat.{add_zero, zero-add}
+use native.Mathlib.Nat.{add-zero, zero-add}
 use native.Mathlib.Omega.{arith}
 use Rattle.remy.specs.declared.simulation.Simulation.{Simulation}
 use Rattle.remy.specs.declared.simulation.Ticked.{Ticked}
@@ -44,7 +44,7 @@ runs_join (suc m) n s = by (tick_of s).moved refl (runs_join m n (tick_of s).sim
     still e zero =
         record {
           state = rw (later 0, rests (m + 0) s e) (sym (rests_same s e));
-          done = rw (later 0, rests m s e, rests (m + 0) s e) (add_zero (run_of 1 s).done);
+          done = rw (later 0, rests m s e, rests (m + 0) s e) (add-zero (run_of 1 s).done);
           number = λ some. absurd (omega (arith, some));
         }
     still e (suc k) =

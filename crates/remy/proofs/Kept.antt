@@ -3,7 +3,7 @@ use mathlib.Core.Path.{◌≡◌, refl, sym, ap, subst, ◌∙◌}
 use mathlib.Core.Bool.{Bool, true, false, ◌&&◌, cond}
 use mathlib.Core.List.{List, [], ◌∷◌, ◌++◌, append-nil}
 use Prim.Native.Nat.{ℕ, zero, suc, ◌+◌, ◌≤◌, ◌<◌}
-use native.Mathlib.Nat.{add_zero}
+use native.Mathlib.Nat.{add-zero}
 use native.Mathlib.Decide.{ℕ_discrete}
 use native.Mathlib.Omega.{arith}
 use borrow.Author.Tests.{eq-eqb, ne_eqb, le-leb, lt-leb, lt-ltb, leb-true, leb-false}
@@ -222,7 +222,7 @@ module _ {n : RemyNetwork} {admitted started left : ℕ → List Entry} {sent : 
       inside = let full = k.meters-full in omega (arith, full)
 
       more : (j : ℕ) → total (of_sender j) (counted ++ (p ∷ [])) ≡ total (of_sender j) counted + of_sender j p
-      more j = total-append (of_sender j) counted (p ∷ []) ∙ ap (λ c. total (of_sender j) counted + c) (add_zero (of_sender j p))
+      more j = total-append (of_sender j) counted (p ∷ []) ∙ ap (λ c. total (of_sender j) counted + c) (add-zero (of_sender j p))
 
       counts : (j : ℕ) → j < n.senders → Dec (j ≡ i) → (get_or (set s.meters i x) j no_meter).records ≡ total (of_sender j) (counted ++ (p ∷ []))
       counts j g (yes same) =
@@ -234,7 +234,7 @@ module _ {n : RemyNetwork} {admitted started left : ℕ → List Entry} {sent : 
           let none : of_sender j p ≡ 0 = rw (ne_eqb p.sender j (λ (q : p.sender ≡ j). other (sym q ∙ own))) in
           ap (λ y. y.records) (get_or-set_other s.meters i j x no_meter other)
           ∙ k.meter j g
-          ∙ sym (more j ∙ ap (λ c. total (of_sender j) counted + c) none ∙ add_zero (total (of_sender j) counted))
+          ∙ sym (more j ∙ ap (λ c. total (of_sender j) counted + c) none ∙ add-zero (total (of_sender j) counted))
 
   -- a sender that has sent one more, the packet that follows its last
   pub count-sent : (i : ℕ) (x : LossySender) (t : Time) → i < n.senders → n.senders ≤ 16 → x.packets_sent ≡ (sender_at s i).packets_sent + 1
@@ -262,7 +262,7 @@ module _ {n : RemyNetwork} {admitted started left : ℕ → List Entry} {sent : 
 
       -- what a weight sums to with the new packet
       more : (f : PacketId → ℕ) → total f (ids (sent ++ (entry ∷ []))) ≡ total f (ids sent) + f next
-      more f = ap (total f) (map_append (λ y. y.packet) sent (entry ∷ [])) ∙ total-append f (ids sent) (next ∷ []) ∙ ap (λ c. total f (ids sent) + c) (add_zero (f next))
+      more f = ap (total f) (map_append (λ y. y.packet) sent (entry ∷ [])) ∙ total-append f (ids sent) (next ∷ []) ∙ ap (λ c. total f (ids sent) + c) (add-zero (f next))
 
       stored : (get_or (set s.senders i x) i no_sender).packets_sent ≡ (sender_at s i).packets_sent + 1
       stored = ap (λ y. y.packets_sent) (get_or-set_same s.senders i x no_sender inside) ∙ e
@@ -278,7 +278,7 @@ module _ {n : RemyNetwork} {admitted started left : ℕ → List Entry} {sent : 
           ∙ sym (more (of_sender j) ∙ ap (λ c. total (of_sender j) (ids sent) + c) one)
       counts j (no other) =
           let none : of_sender j next ≡ 0 = rw (ne_eqb i j (λ (q : i ≡ j). other (sym q))) in
-          elsewhere j other ∙ k.sends j ∙ sym (more (of_sender j) ∙ ap (λ c. total (of_sender j) (ids sent) + c) none ∙ add_zero (total (of_sender j) (ids sent)))
+          elsewhere j other ∙ k.sends j ∙ sym (more (of_sender j) ∙ ap (λ c. total (of_sender j) (ids sent) + c) none ∙ add-zero (total (of_sender j) (ids sent)))
 
       -- the packet after the last was not there, and the others are there as before
       grown : (m c : ℕ) → Dec (m ≡ c + 1) → was_sent n i c m + cond (eqb (c + 1) m) 1 0 ≡ was_sent n i (c + 1) m
@@ -287,7 +287,7 @@ module _ {n : RemyNetwork} {admitted started left : ℕ → List Entry} {sent : 
           let there : leb m (c + 1) ≡ true = le-leb m (c + 1) (omega (arith, same)) in
           let first : leb 1 m ≡ true = le-leb 1 m (omega (arith, same)) in
           rw (lt-ltb i n.senders h, before, there, first, eq-eqb (c + 1) m (sym same))
-      grown m c (no other) = rw (ne_eqb (c + 1) m (λ (q : c + 1 ≡ m). other (sym q)), add_zero (was_sent n i c m), below (one_above m c other))
+      grown m c (no other) = rw (ne_eqb (c + 1) m (λ (q : c + 1 ≡ m). other (sym q)), add-zero (was_sent n i c m), below (one_above m c other))
         where
           below : leb m c ≡ leb m (c + 1) → was_sent n i c m ≡ was_sent n i (c + 1) m
           below q = rw q
@@ -303,5 +303,5 @@ module _ {n : RemyNetwork} {admitted started left : ℕ → List Entry} {sent : 
           ∙ ap (λ c. was_sent n i c m) (sym stored))
       ones j m (no other) =
           let none : is_packet j m next ≡ 0 = rw (ne_eqb i j (λ (q : i ≡ j). other (sym q))) in
-          more (is_packet j m) ∙ ap (λ c. total (is_packet j m) (ids sent) + c) none ∙ add_zero (total (is_packet j m) (ids sent)) ∙ k.once j m
+          more (is_packet j m) ∙ ap (λ c. total (is_packet j m) (ids sent) + c) none ∙ add-zero (total (is_packet j m) (ids sent)) ∙ k.once j m
           ∙ ap (λ c. was_sent n j c m) (sym (elsewhere j other))

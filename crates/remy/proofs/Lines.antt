@@ -3,7 +3,7 @@ use mathlib.Core.Path.{◌≡◌, refl, sym, ap, subst, ◌∙◌}
 use mathlib.Core.Bool.{true}
 use mathlib.Core.List.{List, [], ◌∷◌, ◌++◌, map, append_assoc, cons-eq-cons}
 use Prim.Native.Nat.{ℕ, ◌+◌, ◌-◌, ◌<◌}
-use native.Mathlib.Nat.{add_zero}
+use native.Mathlib.Nat.{add-zero}
 use native.Mathlib.Omega.{arith}
 use borrow.Author.Tests.{leb-true}
 use lib.ListN.{length, get_or, set, take}
@@ -171,7 +171,7 @@ arrive {v} {size} {adm} {sts} {lvs} {waiting} {on_line} {free} {contains} p cloc
       dues = k.dues;
       spacing = k.spacing;
       after = k.after;
-      bits = ap (λ n. n + new.bits.0) k.bits ∙ sym (bits_append waiting (new ∷ []) ∙ ap (λ n. total_bits waiting + n) (add_zero new.bits.0));
+      bits = ap (λ n. n + new.bits.0) k.bits ∙ sym (bits_append waiting (new ∷ []) ∙ ap (λ n. total_bits waiting + n) (add-zero new.bits.0));
       carried =
           map_append (λ y. y.bits.0) waiting (new ∷ [])
           ∙ ap (λ l. l ++ (new.bits.0 ∷ [])) k.carried

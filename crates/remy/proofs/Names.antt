@@ -13,7 +13,7 @@ use lib.ListN.{length}
 use lib.Ieee.{lt}
 use Rattle.quantities.specs.declared.time.Time.{Time}
 use Rattle.quantities.specs.Units.{span_of, rate_of}
-use Rattle.rand.specs.Draws.{unit_of}
+use Rattle.draws.specs.Draws.{unit_of}
 use Rattle.link.specs.declared.packet.Packet.{Packet}
 use Rattle.link.specs.declared.link.Line.{Line}
 use Rattle.link.specs.declared.link.Left.{Left}

@@ -16,8 +16,8 @@ use Rattle.quantities.specs.Doubles.{power}
 use Rattle.quantities.specs.Units.{span_of, rate_of, amount_over_rate}
 use Rattle.quantities.specs.NewTime.{FineTime, Double}
 use Rattle.quantities.proofs.Ranges.{within}
-use Rattle.rand.specs.declared.distribution.ContinuousDistribution.{ContinuousDistribution}
-use Rattle.rand.specs.Draws.{unit_of}
+use Rattle.draws.specs.declared.distribution.ContinuousDistribution.{ContinuousDistribution}
+use Rattle.draws.specs.Draws.{unit_of}
 use Rattle.link.specs.declared.link.Line.{Line}
 use Rattle.link.specs.declared.link.Delivered.{Delivered}
 use Rattle.sender.specs.declared.lossy.Policy.{Policy}

@@ -10,9 +10,9 @@ use lib.Ieee.{lt}
 use Rattle.quantities.specs.declared.time.Time.{Time}
 use Rattle.quantities.specs.Doubles.{zero_f, power}
 use Rattle.quantities.specs.Units.{span_of, rate_of}
-use Rattle.rand.specs.declared.generator.Rng.{Rng}
-use Rattle.rand.specs.declared.distribution.ContinuousDistribution.{ContinuousDistribution}
-use Rattle.rand.specs.Draws.{PositiveDraw, draw_of, redraw}
+use Rattle.draws.specs.declared.generator.Rng.{Rng}
+use Rattle.draws.specs.declared.distribution.ContinuousDistribution.{ContinuousDistribution}
+use Rattle.draws.specs.Draws.{PositiveDraw, draw_of, redraw}
 use Rattle.link.specs.declared.link.Line.{Line}
 use Rattle.link.specs.declared.link.Arrival.{Arrival}
 use Rattle.link.specs.declared.link.Transmitted.{Transmitted}

@@ -1,9 +1,9 @@
 -- What a proof by computation opens: each name below, on an `unfolding` line, opens the definitions that stand on its own. `fitting` is for the fit test, and
 -- `ticking` for a build, a tick, a run and a read. Assumes nothing.
 use lib.Ieee.{of_bits, round, units, odd, size, span, climb, add, mul, sub, neg, sum, div, of_int, lt, le, eq}
-use Rattle.rand.specs.SplitMix64.{mixed}
-use Rattle.rand.specs.Generator.{output_of, moved_on, from_seed, all_zero, replaced, from_words, child_of}
-use Rattle.rand.specs.Draws.{sample_of, unit_of, uniform_of, draw_of, redraw}
+use Rattle.draws.specs.SplitMix64.{mixed}
+use Rattle.draws.specs.Generator.{output_of, moved_on, from_seed, all_zero, replaced, from_words, child_of}
+use Rattle.draws.specs.Draws.{sample_of, unit_of, uniform_of, draw_of, redraw}
 use Rattle.flows.specs.Sums.{summed_of, average_rtt}
 use Rattle.meters.specs.Meter.{start_fit, meter_fit, ready, switched_of, recorded_of, enabled_time, read_of}
 use Rattle.link.specs.Link as Link

@@ -16,10 +16,10 @@ use Rattle.quantities.specs.declared.time.OptionTime.TheVariants.{None}
 use Rattle.quantities.specs.Doubles.{zero_f}
 use Rattle.quantities.specs.Units.{span_of, time_of, span_after}
 use Rattle.quantities.proofs.Order.{lt→le}
-use Rattle.rand.specs.declared.generator.Rng.{Rng}
-use Rattle.rand.specs.declared.distribution.ContinuousDistribution.{ContinuousDistribution}
-use Rattle.rand.specs.Generator.{from_seed, child_of}
-use Rattle.rand.specs.Draws.{draw_of, redraw, positive_of}
+use Rattle.draws.specs.declared.generator.Rng.{Rng}
+use Rattle.draws.specs.declared.distribution.ContinuousDistribution.{ContinuousDistribution}
+use Rattle.draws.specs.Generator.{from_seed, child_of}
+use Rattle.draws.specs.Draws.{draw_of, redraw, positive_of}
 use Rattle.meters.specs.Meter.{new_meter}
 use Rattle.link.specs.declared.link.Limit.{Limit}
 use Rattle.link.specs.declared.link.Limit.TheVariants as Limit

@@ -3,10 +3,10 @@ use Rattle.std.specs.Prelude.{ℕ, zero, suc, ◌+◌, ◌*◌, false, cond, Lis
 use Rattle.quantities.specs.declared.time.OptionTime.TheVariants.{None}
 use Rattle.quantities.specs.Doubles.{zero_f, power, least}
 use Rattle.quantities.specs.Units.{time_of, amount_of}
-use Rattle.rand.specs.declared.generator.Rng.{Rng}
-use Rattle.rand.specs.declared.distribution.ContinuousDistribution.{ContinuousDistribution}
-use Rattle.rand.specs.declared.distribution.ContinuousDistribution.TheVariants.{Always}
-use Rattle.rand.specs.Generator.{from_words, from_seed, child_of}
+use Rattle.draws.specs.declared.generator.Rng.{Rng}
+use Rattle.draws.specs.declared.distribution.ContinuousDistribution.{ContinuousDistribution}
+use Rattle.draws.specs.declared.distribution.ContinuousDistribution.TheVariants.{Always}
+use Rattle.draws.specs.Generator.{from_words, from_seed, child_of}
 use Rattle.meters.specs.Meter.{new_meter}
 use Rattle.link.specs.declared.packet.Packet.{Packet}
 use Rattle.link.specs.declared.packet.Waiting.{Waiting}

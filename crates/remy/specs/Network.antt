@@ -3,8 +3,8 @@ use Rattle.std.specs.Prelude.{ℕ, zero, suc, Bool, true, false, ◌&&◌, cond,
 use Rattle.std.specs.Float.{fin}
 use Rattle.std.specs.Float.Ieee.{lt, le}
 use Rattle.quantities.specs.Doubles.{zero_f, power, in_range}
-use Rattle.rand.specs.declared.distribution.ContinuousDistribution.{ContinuousDistribution}
-use Rattle.rand.specs.declared.distribution.ContinuousDistribution.TheVariants.{Always, Uniform}
+use Rattle.draws.specs.declared.distribution.ContinuousDistribution.{ContinuousDistribution}
+use Rattle.draws.specs.declared.distribution.ContinuousDistribution.TheVariants.{Always, Uniform}
 use Rattle.link.specs.declared.link.Limit.{Limit}
 use Rattle.link.specs.declared.link.Limit.TheVariants as Limit
 use Rattle.link.specs.declared.link.LineValues.{LineValues}

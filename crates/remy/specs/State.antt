@@ -6,7 +6,7 @@ use Rattle.quantities.specs.declared.time.OptionTime.{OptionTime}
 use Rattle.quantities.specs.declared.time.OptionTime.TheVariants.{None}
 use Rattle.quantities.specs.declared.information.Information.{Information}
 use Rattle.quantities.specs.Units.{span_of, time_of, amount_of}
-use Rattle.rand.specs.declared.generator.Rng.{Rng}
+use Rattle.draws.specs.declared.generator.Rng.{Rng}
 use Rattle.meters.specs.declared.meter.AverageFlowMeter.{AverageFlowMeter}
 use Rattle.link.specs.declared.packet.Packet.{Packet}
 use Rattle.link.specs.declared.packet.Waiting.{Waiting}

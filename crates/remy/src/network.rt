@@ -1,9 +1,9 @@
 use link::LineValues;
-use rand::ContinuousDistribution;
+use draws::ContinuousDistribution;
 use sender::Policy;
 
 // The values of a return line, if there is one.
-#[derive(Drop)]
+#[derive(Clone, Copy)]
 pub enum ReturnLine {
     None,
     Line(LineValues),
@@ -13,7 +13,7 @@ pub enum ReturnLine {
 // sender's packets, how many senders there are, how long they are on and off, and how they choose
 // their windows. Any values can be held; a build tests them. The bits of places from the number of
 // senders on are read by nobody.
-#[derive(Drop)]
+#[derive(Clone, Copy)]
 pub struct RemyNetwork {
     pub line: LineValues,
     pub back: ReturnLine,

@@ -6,14 +6,14 @@ use sender::LossySender;
 use toggler::{Queued, Toggler};
 
 // The part whose turn is next, if any.
-#[derive(Drop)]
+#[derive(Clone, Copy)]
 pub enum Next {
     None,
     Part(usize),
 }
 
 // The clock, and the next part.
-#[derive(Drop)]
+#[derive(Clone, Copy)]
 pub struct Head {
     pub clock: Time,
     pub next: Next,
@@ -23,7 +23,7 @@ pub struct Head {
 // and those on the line, the senders, togglers and meters, and the queue of the parts' times. Line 1
 // is the return line; the packets of line l lie in the places from 512 l on. Where the network has no
 // return line, nobody reads what is held for it.
-#[derive(Drop)]
+#[derive(Clone, Copy)]
 pub struct Simulation {
     pub network: RemyNetwork,
     pub head: Head,
@@ -37,7 +37,7 @@ pub struct Simulation {
 }
 
 // What a tick did, beside a packet that it started.
-#[derive(Drop)]
+#[derive(Clone, Copy)]
 pub enum Mark {
     None,
     Enabled,
@@ -55,7 +55,7 @@ pub enum Mark {
 }
 
 // A packet by its sender and its sequence number, or none.
-#[derive(Drop)]
+#[derive(Clone, Copy)]
 pub enum Name {
     None,
     Packet(u32, u32),
@@ -63,7 +63,7 @@ pub enum Name {
 
 // A tick's record: the clock, the part, the mark, the packet that the mark is about, and the packet
 // that started.
-#[derive(Drop)]
+#[derive(Clone, Copy)]
 pub struct TickRecord {
     pub time: Time,
     pub part: usize,
@@ -73,14 +73,14 @@ pub struct TickRecord {
 }
 
 // What a build gives: a number of document 01, and the simulation, empty where it is refused.
-#[derive(Drop)]
+#[derive(Clone, Copy)]
 pub struct Built {
     pub number: u32,
     pub simulation: Simulation,
 }
 
 // What a tick gives: a number of document 01, whether it moved, its record, and the simulation.
-#[derive(Drop)]
+#[derive(Clone, Copy)]
 pub struct Ticked {
     pub number: u32,
     pub moved: bool,
@@ -89,7 +89,7 @@ pub struct Ticked {
 }
 
 // What a run gives: how many ticks were done, the last number, and the simulation.
-#[derive(Drop)]
+#[derive(Clone, Copy)]
 pub struct Ran {
     pub done: u32,
     pub number: u32,
@@ -97,7 +97,7 @@ pub struct Ran {
 }
 
 // A tick's record, and the bits that wait for the first line after it.
-#[derive(Drop)]
+#[derive(Clone, Copy)]
 pub struct Noted {
     pub note: TickRecord,
     pub waiting: Information,
@@ -105,7 +105,7 @@ pub struct Noted {
 
 // What a run with records gives: how many ticks were done, the last number, their records from the
 // first place on, and the simulation.
-#[derive(Drop)]
+#[derive(Clone, Copy)]
 pub struct Recorded {
     pub done: u32,
     pub number: u32,

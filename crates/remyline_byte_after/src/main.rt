@@ -1,4 +1,5 @@
 // The text program, given the longest description and one byte after it (15).
+#![tactic(auto)]
 fn main() {
     console::run();
 }

@@ -1,4 +1,5 @@
 // The text program, given a run whose lines take two turns of the buffer.
+#![tactic(auto)]
 fn main() {
     console::run();
 }

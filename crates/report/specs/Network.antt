@@ -2,8 +2,8 @@
 use Rattle.std.specs.Prelude.{ℕ, Float}
 use Rattle.std.specs.Float.{binary64}
 use Rattle.std.specs.Float.Ieee.{of_bits}
-use Rattle.rand.specs.declared.distribution.ContinuousDistribution.{ContinuousDistribution}
-use Rattle.rand.specs.declared.distribution.ContinuousDistribution.TheVariants as Distribution
+use Rattle.draws.specs.declared.distribution.ContinuousDistribution.{ContinuousDistribution}
+use Rattle.draws.specs.declared.distribution.ContinuousDistribution.TheVariants as Distribution
 use Rattle.link.specs.declared.link.Limit.{Limit}
 use Rattle.link.specs.declared.link.Limit.TheVariants as Limit
 use Rattle.sender.specs.declared.lossy.Policy.{Policy}

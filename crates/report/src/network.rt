@@ -5,7 +5,7 @@ ghost use Rattle.report.specs.Network.{limit_of, distribution_of, policy_of, net
 use description::Description;
 use link::{Limit, LineValues};
 use quantities::float::from_bits;
-use rand::ContinuousDistribution;
+use draws::ContinuousDistribution;
 use remy::{RemyNetwork, ReturnLine};
 use sender::Policy;
 

@@ -8,7 +8,7 @@ use remy::Simulation;
 
 // What is printed next: a refusal, the records of so many ticks, the stop line with the last number,
 // the flows from a sender on, or nothing more.
-#[derive(Drop)]
+#[derive(Clone, Copy)]
 pub enum Stage {
     Refused(u32),
     Ticks(u32),
@@ -18,7 +18,7 @@ pub enum Stage {
 }
 
 // What is left to print, and the simulation that it is read from.
-#[derive(Drop)]
+#[derive(Clone, Copy)]
 pub struct Report {
     pub stage: Stage,
     pub simulation: Simulation,

@@ -1,13 +1,14 @@
 // Prints fourteen ticks of a network with a return line as the text program prints a run: a line for each
 // tick, the end, and the flows. A return line has no text, so the network is built here: it is the one of
 // docs/RETURN-LINE.md, and docs/draw.py draws what is printed.
+#![tactic(auto)]
 ghost use Rattle.std.specs.Prelude.{◌≡◌};
 ghost use Rattle.remy.specs.Build.{build_of};
 ghost use Rattle.lines.specs.Lines.{run_lines};
 ghost use Rattle.report.specs.Report.{left_of};
 
 use link::{Limit, LineValues};
-use rand::ContinuousDistribution;
+use draws::ContinuousDistribution;
 use remy::{RemyNetwork, ReturnLine};
 use report::{Report, Stage};
 use sender::Policy;

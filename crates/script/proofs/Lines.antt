@@ -3,7 +3,7 @@ use Prim.Native.Nat.{ℕ, suc, ◌+◌, ◌≤◌, ◌<◌}
 use mathlib.Core.Bool.{Bool, true, false, cond}
 use mathlib.Core.List.{List}
 use mathlib.Core.Path.{◌≡◌, sym, ◌∙◌}
-use native.Mathlib.Nat.{add_zero}
+use native.Mathlib.Nat.{add-zero}
 use native.Mathlib.Numerals.{add-one}
 use native.Mathlib.Omega.{arith}
 use lib.Dec.{eqb}
@@ -37,4 +37,4 @@ module _ (text : List ℕ) (i : ℕ) where
   -- at the end no line is left
   pub line-none : length text ≤ i → i ≡ next_line text i
   unfolding next_line line_length
-  line-none h = rw (drop_of_length-le text h, add_zero i)
+  line-none h = rw (drop_of_length-le text h, add-zero i)

@@ -4,11 +4,11 @@ ghost use Rattle.sender.specs.Sender.{first_window, enabled_of, disabled_of, may
 use link::Packet;
 use quantities::time::earliest_opt;
 use quantities::{OptionTime, Time, TimeSpan};
-use rand::Rng;
+use draws::Rng;
 
 // How a window is chosen: held at a size; grown from first to most; or grown from 1 to most, and
 // halved by a timer at each gap.
-#[derive(Drop)]
+#[derive(Clone, Copy)]
 pub enum Policy {
     Held(u32),
     Grown(u32, u32),
@@ -16,7 +16,7 @@ pub enum Policy {
 }
 
 // What a sender holds while it is on.
-#[derive(Drop)]
+#[derive(Clone, Copy)]
 pub struct Enabled {
     pub started: Time,
     pub greatest_ack: u32,
@@ -24,13 +24,13 @@ pub struct Enabled {
     pub timer: OptionTime,
 }
 
-#[derive(Drop)]
+#[derive(Clone, Copy)]
 pub enum SenderState {
     WaitingForEnable,
     Enabled(Enabled),
 }
 
-#[derive(Drop)]
+#[derive(Clone, Copy)]
 pub struct LossySender {
     pub packets_sent: u32,
     pub state: SenderState,
@@ -38,7 +38,7 @@ pub struct LossySender {
 }
 
 // What a send does: the number (0 or 11), the packet, and what the sender then holds.
-#[derive(Drop)]
+#[derive(Clone, Copy)]
 pub struct Sent {
     pub number: u32,
     pub packet: Packet,
@@ -47,14 +47,14 @@ pub struct Sent {
 }
 
 // How a returned packet is taken.
-#[derive(Drop)]
+#[derive(Clone, Copy)]
 pub enum Heard {
     Ignored,
     Old,
     Counted,
 }
 
-#[derive(Drop)]
+#[derive(Clone, Copy)]
 pub struct Returned {
     pub heard: Heard,
     pub sender: LossySender,

@@ -4,7 +4,7 @@ use mathlib.Core.Bool.{Bool, true, false, cond}
 use mathlib.Core.List.{List, [], ◌∷◌, ◌++◌, append-nil}
 use Prim.Native.Nat.{ℕ, zero, suc, ◌+◌, ◌-◌, ◌%◌, ◌≤◌, ◌<◌}
 use native.Mathlib.Omega.{arith}
-use native.Mathlib.Nat.{add_zero, zero-add, mod-eq_of_lt}
+use native.Mathlib.Nat.{add-zero, zero-add, mod-eq_of_lt}
 use lib.Dec.{eqb}
 use lib.ListN.{length, get_or, set, replicate, length-append}
 use lib.Seq.{append_snoc, set-append_seam}
@@ -52,7 +52,7 @@ later d notes r xs = record { done = d + r.done; number = r.number; records = st
 
 loop_is : (n d : ℕ) (notes : List Noted) (s : Simulation) → advance_of n d notes s ≡ later d notes (run_of n s) (notes_of n s)
 unfolding advance_of run_of notes_of
-loop_is zero d notes s = ap (λ (k : ℕ). record { done = k; number = 0; records = notes; simulation = s }) (sym (add_zero d))
+loop_is zero d notes s = ap (λ (k : ℕ). record { done = k; number = 0; records = notes; simulation = s }) (sym (add-zero d))
 loop_is (suc n) d notes s = by (tick_of s) (tick_of s).moved refl (λ l m. loop_is n (d + 1) l m)
   where
     by : (t : Ticked) (b : Bool) → t.moved ≡ b → ((l : List Noted) (m : Simulation) → advance_of n (d + 1) l m ≡ later (d + 1) l (run_of n m) (notes_of n m))
@@ -67,7 +67,7 @@ loop_is (suc n) d notes s = by (tick_of s) (tick_of s).moved refl (λ l m. loop_
         rw e
         (rest after t.simulation
         ∙ ap (λ (k : ℕ). record { done = k; number = r.number; records = stored after (d + 1) (notes_of n t.simulation); simulation = r.simulation }) more)
-    by t false e rest = rw e (ap (λ (k : ℕ). record { done = k; number = t.number; records = notes; simulation = t.simulation }) (sym (add_zero d)))
+    by t false e rest = rw e (ap (λ (k : ℕ). record { done = k; number = t.number; records = notes; simulation = t.simulation }) (sym (add-zero d)))
 
 pub run_is : (n : ℕ) (s : Simulation) (a : Recorded) → a ≡ advance_of n 0 (replicate batch no_noted) s → ran_of a ≡ run_of n s
 run_is n s a e =

@@ -10,8 +10,8 @@ use Rattle.quantities.specs.declared.time.OptionTime.{OptionTime}
 use Rattle.quantities.specs.declared.time.OptionTime.TheVariants.{Some}
 use Rattle.quantities.specs.Doubles.{zero_f, power}
 use Rattle.quantities.specs.Units.{span_of, span_after}
-use Rattle.rand.specs.declared.generator.Rng.{Rng}
-use Rattle.rand.specs.Generator.{all_zero}
+use Rattle.draws.specs.declared.generator.Rng.{Rng}
+use Rattle.draws.specs.Generator.{all_zero}
 use Rattle.meters.specs.declared.meter.AverageFlowMeter.{AverageFlowMeter}
 use Rattle.meters.specs.Meter.{is_on, total_fit, sum_fit}
 use Rattle.link.specs.declared.packet.Packet.{Packet}

@@ -3,7 +3,7 @@ use mathlib.Core.Path.{◌≡◌, refl, sym, ap, ap₂, subst, ◌∙◌}
 use mathlib.Core.Bool.{true, false, cond}
 use mathlib.Core.List.{List, [], ◌∷◌, ◌++◌, map}
 use Prim.Native.Nat.{ℕ, ◌+◌, ◌≤◌, ◌<◌}
-use native.Mathlib.Nat.{add_zero}
+use native.Mathlib.Nat.{add-zero}
 use native.Mathlib.Decide.{ℕ_discrete}
 use native.Mathlib.Omega.{arith}
 use borrow.Author.Tests.{leb-false, eqb-true}
@@ -16,8 +16,8 @@ use Rattle.quantities.specs.Units.{span_of, rate_of, amount_of, amount_over_rate
 use Rattle.quantities.specs.Doubles.{power}
 use Rattle.quantities.proofs.Order.{le_known_r, le_refl}
 use Rattle.quantities.proofs.Ranges.{within}
-use Rattle.rand.specs.Draws.{unit_of}
-use Rattle.rand.proofs.ZeroWords.{zero_words}
+use Rattle.draws.specs.Draws.{unit_of}
+use Rattle.draws.proofs.ZeroWords.{zero_words}
 use Rattle.link.specs.declared.packet.Packet.{Packet}
 use Rattle.link.specs.declared.packet.Waiting.{Waiting}
 use Rattle.link.specs.declared.packet.Transit.{Transit}
@@ -43,7 +43,7 @@ use Rattle.steady.proofs.Times.{Early, new_held, new_ahead}
 -- ---- lists with one member more at the end
 
 count_end : (i : ℕ) (xs : List Packet) (p : Packet) → count_of i (xs ++ (p ∷ [])) ≡ count_of i xs + cond (eqb p.sender i) 1 0
-count_end i xs p = count-append i xs (p ∷ []) ∙ ap (λ n. count_of i xs + n) (add_zero (cond (eqb p.sender i) 1 0))
+count_end i xs p = count-append i xs (p ∷ []) ∙ ap (λ n. count_of i xs + n) (add-zero (cond (eqb p.sender i) 1 0))
 
 rising-rest : (x : Transit) (xs : List Transit) → rising (x ∷ xs) ≡ true → rising xs ≡ true
 rising-rest x [] e = refl

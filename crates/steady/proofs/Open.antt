@@ -14,7 +14,7 @@ use Rattle.quantities.specs.declared.time.OptionTime.TheVariants.{None, Some}
 use Rattle.quantities.specs.Doubles.{zero_f, largest}
 use Rattle.quantities.specs.Units.{latest_of, earliest_opt_of}
 use Rattle.quantities.proofs.Order.{le_trans}
-use Rattle.rand.specs.Generator.{all_zero}
+use Rattle.draws.specs.Generator.{all_zero}
 use Rattle.meters.specs.Meter.{is_on, total_fit, sum_fit}
 use Rattle.link.specs.declared.packet.Packet.{Packet}
 use Rattle.link.specs.declared.packet.Transit.{Transit}

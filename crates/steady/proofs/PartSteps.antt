@@ -9,8 +9,8 @@ use lib.Dec.{eqb}
 use lib.Ieee.{lt}
 use Rattle.quantities.specs.declared.time.Time.{Time}
 use Rattle.quantities.specs.Units.{span_of, since}
-use Rattle.rand.specs.declared.distribution.ContinuousDistribution.{ContinuousDistribution}
-use Rattle.rand.proofs.ZeroWords.{zero_words}
+use Rattle.draws.specs.declared.distribution.ContinuousDistribution.{ContinuousDistribution}
+use Rattle.draws.proofs.ZeroWords.{zero_words}
 use Rattle.meters.specs.Meter.{is_on, switched_of, recorded_of}
 use Rattle.link.specs.declared.packet.Packet.{Packet}
 use Rattle.sender.specs.declared.lossy.Enabled.{Enabled}

@@ -10,7 +10,7 @@ use lib.Dec.{T, leb, eqb}
 use lib.Ieee.{lt, le}
 use Rattle.quantities.specs.Doubles.{power}
 use Rattle.quantities.specs.Units.{span_of, rate_of}
-use Rattle.rand.specs.Draws.{unit_of}
+use Rattle.draws.specs.Draws.{unit_of}
 use Rattle.meters.specs.Meter.{switched_of}
 use Rattle.link.specs.declared.packet.Packet.{Packet}
 use Rattle.link.specs.declared.packet.Waiting.{Waiting}

@@ -1,5 +1,6 @@
 // The run of a text for programs in other languages: bytes in, bytes out, and the answer is a number.
 // `sweeps/remyline.h` is its header.
+#![tactic(auto)]
 ghost use Rattle.std.specs.Prelude.{◌≡◌};
 ghost use Rattle.report.specs.Report.{ForText, report_of};
 ghost use Rattle.filling.specs.Filling.{end_of};

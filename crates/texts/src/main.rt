@@ -2,6 +2,7 @@
 // file stdout beside src/ holds what the Rust oracle answers.
 //
 // A text in the list: its length as five decimal digits and LF, then its bytes.
+#![tactic(auto)]
 ghost use Rattle.std.specs.Prelude.{◌≤◌};
 
 use printer::Put;

@@ -3,9 +3,9 @@ use Rattle.std.specs.Prelude.{false, not, cond, eqb, Float}
 use Rattle.quantities.specs.declared.time.Time.{Time}
 use Rattle.quantities.specs.Doubles.{zero_f}
 use Rattle.quantities.specs.Units.{span_of, time_of, span_after}
-use Rattle.rand.specs.declared.generator.Rng.{Rng}
-use Rattle.rand.specs.declared.distribution.ContinuousDistribution.{ContinuousDistribution}
-use Rattle.rand.specs.Draws.{PositiveDraw, positive_of}
+use Rattle.draws.specs.declared.generator.Rng.{Rng}
+use Rattle.draws.specs.declared.distribution.ContinuousDistribution.{ContinuousDistribution}
+use Rattle.draws.specs.Draws.{PositiveDraw, positive_of}
 use Rattle.toggler.specs.declared.toggler.Toggler.{Toggler}
 use Rattle.toggler.specs.declared.toggler.Toggled.{Toggled}
 

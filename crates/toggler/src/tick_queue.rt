@@ -4,13 +4,13 @@ ghost use Rattle.toggler.specs.Queue.{sooner, pick_of};
 use quantities::OptionTime;
 
 // A part's place in the queue: its time, or nothing.
-#[derive(Drop)]
+#[derive(Clone, Copy)]
 pub struct Queued {
     pub time: OptionTime,
 }
 
 // The part that is picked, and its time; nothing where nothing is queued.
-#[derive(Drop)]
+#[derive(Clone, Copy)]
 pub struct Picked {
     pub time: OptionTime,
     pub part: usize,

@@ -2,10 +2,10 @@ ghost use Rattle.std.specs.Prelude.{◌≡◌, cond};
 ghost use Rattle.toggler.specs.Toggler.{new_toggler, toggle_of};
 
 use quantities::{Time, TimeSpan};
-use rand::{ContinuousDistribution, PositiveSample, Rng};
+use draws::{ContinuousDistribution, PositiveSample, Rng};
 
 // Whether its sender is on, when that changes next, and its generator.
-#[derive(Drop)]
+#[derive(Clone, Copy)]
 pub struct Toggler {
     pub enabled: bool,
     pub next_toggle: Time,
@@ -13,7 +13,7 @@ pub struct Toggler {
 }
 
 // What a toggle does: the number (0 or 8), and the toggler after it, or as it was.
-#[derive(Drop)]
+#[derive(Clone, Copy)]
 pub struct Toggled {
     pub number: u32,
     pub toggler: Toggler,

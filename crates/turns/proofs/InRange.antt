@@ -4,7 +4,7 @@ use Prim.Native.Nat.{◌≤◌, ◌<◌}
 use native.Mathlib.Omega.{arith}
 use lib.Ieee.{Float, lt}
 use Rattle.quantities.specs.declared.time.Time.{Time}
-use Rattle.rand.specs.Draws.{unit_of}
+use Rattle.draws.specs.Draws.{unit_of}
 use Rattle.link.specs.declared.packet.Transit.{Transit}
 use Rattle.link.specs.declared.ring.Ring.{Ring}
 use Rattle.link.specs.declared.link.Line.{Line}

@@ -2,6 +2,7 @@
 // that a turn needs, calls these, and stores what they give. Each is a piece of the tick definition.
 //
 // All functions here are helpers for the crate `advance`, and no entry points.
+#![tactic(auto)]
 ghost use Rattle.std.specs.Prelude.{◌≡◌, ◌+◌, ◌*◌, ◌%◌, ◌≤◌, ◌<◌, ◌^◌};
 ghost use Rattle.remy.specs.State.{values_of};
 ghost use Rattle.remy.specs.Tick.{empty_record, begun_name, lost_mark};
@@ -17,7 +18,7 @@ use remy::{Mark, Name, Noted, RemyNetwork, ReturnLine, TickRecord};
 use sender::{Enabled, Heard, LossySender, Policy, SenderState};
 
 // The values of a line that its link's turn reads: its delay, rate and loss.
-#[derive(Drop)]
+#[derive(Clone, Copy)]
 pub struct LinkValues {
     pub delay: f64,
     pub rate: f64,
@@ -26,7 +27,7 @@ pub struct LinkValues {
 
 // What a link did: the number, the packet that left, the packet that started with its place, and the
 // line.
-#[derive(Drop)]
+#[derive(Clone, Copy)]
 pub struct LinkActed {
     pub number: u32,
     pub left: Left,
@@ -36,7 +37,7 @@ pub struct LinkActed {
 }
 
 // What came of the packet that left: whether a sender heard of it, the mark, the sender, its meter.
-#[derive(Drop)]
+#[derive(Clone, Copy)]
 pub struct Hearing {
     pub heard: bool,
     pub mark: Mark,
@@ -45,13 +46,13 @@ pub struct Hearing {
 }
 
 // What a turn sends to a link: nothing, which is a sender's timer or no packet to pass on, or a packet.
-#[derive(Drop)]
+#[derive(Clone, Copy)]
 pub enum Sending {
     Nothing,
     Packet(Packet),
 }
 
-#[derive(Drop)]
+#[derive(Clone, Copy)]
 pub struct SenderActed {
     pub number: u32,
     pub sending: Sending,
@@ -60,7 +61,7 @@ pub struct SenderActed {
 
 // What came of it at the link: the number, whether a packet arrived, whether it was admitted and at
 // which place, the mark, and the line.
-#[derive(Drop)]
+#[derive(Clone, Copy)]
 pub struct Arriving {
     pub number: u32,
     pub arrives: bool,

@@ -1,9 +1,10 @@
 // Runs the published vectors of xoshiro256++ and SplitMix64 and prints what this repository's
 // generators give; the file stdout beside src/ holds the published values, and the gate compares.
 // After them come values that nobody published, under a heading that says so.
+#![tactic(auto)]
 use quantities::float::to_bits;
 use quantities::{Information, Time, TimeSpan};
-use rand::{ContinuousDistribution, PositiveSample, Rng, SplitMix64};
+use draws::{ContinuousDistribution, PositiveSample, Rng, SplitMix64};
 
 fn main() {
     io::write_all(
@@ -43,14 +44,14 @@ fn main() {
 }
 
 // A generator of either kind.
-#[derive(Drop)]
+#[derive(Clone, Copy)]
 enum Generator {
     Xoshiro(Rng),
     SplitMix(SplitMix64),
 }
 
 // An output, and the generator after it.
-#[derive(Drop)]
+#[derive(Clone, Copy)]
 struct Drawn {
     value: u64,
     after: Generator,
@@ -127,11 +128,11 @@ fn given() {
 // Samples at the outputs 0, 4095, 4096, 41943041 and 2^64 - 1.
 fn samples() {
     io::write_all(1, b"samples\n");
-    double_line(rand::distribution::sample(0));
-    double_line(rand::distribution::sample(4095));
-    double_line(rand::distribution::sample(4096));
-    double_line(rand::distribution::sample(41943041));
-    double_line(rand::distribution::sample(18446744073709551615));
+    double_line(draws::distribution::sample(0));
+    double_line(draws::distribution::sample(4095));
+    double_line(draws::distribution::sample(4096));
+    double_line(draws::distribution::sample(41943041));
+    double_line(draws::distribution::sample(18446744073709551615));
 }
 
 fn draws() {

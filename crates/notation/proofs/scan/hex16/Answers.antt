@@ -1,0 +1,47 @@
+-- `notation::scan::hex16` meets its contract: all digits are read, there are 16 of them, and the byte ends them. Any other text has no double there.
+-- Assumes nothing.
+use mathlib.Core.Path.{refl, ap}
+use native.Mathlib.Omega.{arith}
+use lib.ListN.{length}
+use borrow.Author.Rules.{rules}
+use Rattle.notation.proofs.Written.{hex_length, run_hex}
+use Rattle.notation.proofs.Numbers.{hexadecimal, ended_too_large, ended_unspelt, ended_open, ended-found}
+use Rattle.notation.specs.InPlace.{InPlace}
+use Rattle.notation.proofs.scan.hex16.Code as code
+use Rattle.notation.proofs.scan.hex16.Goals as goal
+
+pub overflow_sub-next : goal.overflow_sub-next
+overflow_sub-next c =
+    let p = rw c.in-At.is at c.digits.ensures in
+    omega (arith, p.0.count)
+
+pub returns-then-next-at-ne16 : goal.returns-then-next-at-ne16
+returns-then-next-at-ne16 c =
+    let a = c.args in
+    let p = rw c.in-At.is at c.digits.ensures in
+    ended_unspelt hexadecimal a.end c.requires a.text.now a.at _ _ p.0 p.1
+    (λ w h e. omega (arith, hex_length w, ap length e, p.0.count, c.if-next-at-ne16.true))
+
+pub returns-in-At-byte : goal.returns-in-At-byte
+returns-in-At-byte c =
+    let a = c.args in
+    let p = rw c.in-At.is at c.digits.ensures in
+    let q = rw c.in-At-byte.is at c.byte.ensures in
+    ended-found hexadecimal a.end c.requires a.text.now a.at _ _ p.0 p.1
+    (omega (arith, p.0.small)) (run_hex p.0.run (omega (arith, p.0.count, c.if-next-at-ne16.false))) q
+
+pub returns-in-Refused-byte : goal.returns-in-Refused-byte
+returns-in-Refused-byte c =
+    let a = c.args in
+    let p = rw c.in-At.is at c.digits.ensures in
+    let q = rw c.in-Refused-byte.is at c.byte.ensures in
+    ended_open hexadecimal a.end c.requires a.text.now a.at _ _ p.0 p.1 q
+
+pub returns-in-Refused : goal.returns-in-Refused
+returns-in-Refused c =
+    let a = c.args in
+    let p = rw c.in-Refused.is at c.digits.ensures in
+    ended_too_large hexadecimal a.end c.requires a.text.now a.at p
+
+in_place : InPlace code.function
+in_place = refl
