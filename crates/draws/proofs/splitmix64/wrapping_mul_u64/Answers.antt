@@ -13,4 +13,4 @@ pub overflow_mul-a_low : goal.overflow_mul-a_low
 overflow_mul-a_low c = record { fits = fits (c.args.a % 4294967296) (c.args.b % 4294967296) (search rules) (search rules) }
 
 pub returns : goal.returns
-returns c = c.wrapping_add_u64.ensures ∙ product c.args.a c.args.b
+returns c = c.wrapping_add_u64.ensures.value ∙ product c.args.a c.args.b

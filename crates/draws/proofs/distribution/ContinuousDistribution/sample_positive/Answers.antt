@@ -3,8 +3,6 @@ use Rattle.std.proofs.Common.{◌≡◌, ◌-◌, ◌≤◌, refl, ◌∙◌, ar
 use lib.Ieee.{of_bits}
 use Rattle.draws.specs.Draws.{redraw, positive_of}
 use Rattle.draws.proofs.Redraw.{spent, positive, again}
-  statement,
-}
 use Rattle.draws.proofs.distribution.ContinuousDistribution.sample_positive.Goals as goal
 
 pub loop-tries-init : goal.loop-tries-init

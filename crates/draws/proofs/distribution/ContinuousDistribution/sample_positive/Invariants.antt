@@ -3,8 +3,6 @@ use Rattle.std.proofs.Common.{◌≡◌, ◌-◌, ◌≤◌, refl, ◌∙◌, ar
 use lib.Ieee.{of_bits}
 use Rattle.draws.specs.Draws.{redraw, positive_of}
 use Rattle.draws.proofs.Redraw.{spent, positive, again}
-  statement,
-}
 use Rattle.draws.proofs.distribution.ContinuousDistribution.sample_positive.Given as goal
 
 abbrev pub invariant-loop-tries : goal.invariant-loop-tries

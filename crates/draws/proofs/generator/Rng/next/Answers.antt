@@ -8,7 +8,7 @@ unfolding output_of moved_on
 returns c =
     rw (
       c.rotl-2.ensures,
-      c.wrapping_add_u64-value.ensures,
+      c.wrapping_add_u64-value.ensures.value,
       c.rotl.ensures,
-      c.wrapping_add_u64-sum.ensures,
+      c.wrapping_add_u64-sum.ensures.value,
     )
