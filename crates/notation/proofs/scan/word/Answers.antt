@@ -33,13 +33,13 @@ pub overflow_add-next : goal.overflow_add-next
 overflow_add-next c = omega arith
 
 pub returns-then-not-letter : goal.returns-then-not-letter
-returns-then-not-letter c = word_some _ _ _ _ c.loop-next.invariant c.loop-next-test.true (let b = c.shared_slice_known-in-loop-next-1.given c.loop-next.next in omega (arith, b.fits)) (sym c.letter.ensures ∙ not-true _ c.if-not-letter.true)
+returns-then-not-letter c = word_some _ _ _ _ c.loop-next.invariant c.loop-next-test.true (let b = c.shared_slice_known-in-loop-next-1.given c.loop-next.next in omega (arith, b.fits)) (sym c.letter.ensures ∙ c.if-not-letter.true)
 
 pub loop-next-smaller : goal.loop-next-smaller
 loop-next-smaller c = omega arith
 
 pub loop-next-preserved : goal.loop-next-preserved
-loop-next-preserved c = passed-more _ _ _ _ c.loop-next.invariant c.loop-next-test.true (sym c.letter.ensures ∙ not-false _ c.if-not-letter.false)
+loop-next-preserved c = passed-more _ _ _ _ c.loop-next.invariant c.loop-next-test.true (sym c.letter.ensures ∙ c.if-not-letter.false)
 
 pub returns : goal.returns
 returns c = word-ends _ _ _ _ c.loop-next.invariant c.loop-next-test.false
