@@ -13,7 +13,7 @@ use Rattle.quantities.specs.declared.time.OptionTime.TheVariants.{Some}
 use Rattle.quantities.specs.Doubles.{zero_f, power, in_range}
 use Rattle.quantities.specs.Units.{amount_of, rate_of, amount_over_rate}
 use Rattle.quantities.proofs.Order.{le_known_r, not-lt→le}
-use Rattle.quantities.proofs.Ranges.{within}
+use Rattle.quantities.proofs.Ranges.{Within}
 use Rattle.meters.specs.Meter.{total_fit, sum_fit}
 use Rattle.link.specs.declared.packet.Packet.{Packet}
 use Rattle.link.specs.Ring.{places, items, popped}
@@ -146,14 +146,14 @@ module _ (s : Simulation) (f : FitState s) where
           (ap (λ xs. every (packet_fit s) (map (λ x. x.packet) xs)) (sym then) ∙ both_l (every (packet_fit s) (waiting_packets s l)) (every (packet_fit s) (on_line_packets s l)) packets_of))
 
       -- it carries its sender's bits, so the time that it takes to start is small
-      pub first-within : within (amount_over_rate (first_of s l).bits (rate_of (values_of s.network l).rate)).0 (power 40)
+      pub first-within : Within (amount_over_rate (first_of s l).bits (rate_of (values_of s.network l).rate)).0 (power 40)
       unfolding carried_fit
       first-within =
           let own : (first_of s l).bits.0 ≡ (packet_bits s.network (first_of s l).packet).0 =
           eqb-true (first_of s l).bits.0 (packet_bits s.network (first_of s l).packet).0
           (every_first (carries s) (first_of s l) (items no_waiting s.waiting l (popped (line_at s l).waiting))
           (ap (every (carries s)) (sym then) ∙ at-line l there (λ j. every (carries s) (waiting_items s j)) f.carried)) in
-          subst (λ (b : ℕ). within (amount_over_rate (amount_of b) (rate_of (values_of s.network l).rate)).0 (power 40)) (sym own) (sending-within accepted l (first_of s l).packet.sender first-sender)
+          subst (λ (b : ℕ). Within (amount_over_rate (amount_of b) (rate_of (values_of s.network l).rate)).0 (power 40)) (sym own) (sending-within accepted l (first_of s l).packet.sender first-sender)
 
     -- ---- the first packet on the line
     module _ (sound : Sound s.on_line l (line_at s l).on_line) (some : 0 < (line_at s l).on_line.count) where

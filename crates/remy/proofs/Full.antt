@@ -38,8 +38,8 @@ built-none n seed l =
     let c = child_of (from_seed seed) in
     let parts = populate n.senders 0 n.off (no_parts c.parent) in
     let back = back_words n parts.root in
-    let refused : (number : ℕ) → F (not_built number) = λ number. none-there _ empty_words blank_words l in
+    let refused : (number : ℕ) → F (not_built number) = λ number. none-there (not_built number).simulation.on_line empty_words blank_words l in
     cond_elim F (eqb (network_stop n) 0) (build_from n c.child parts) (not_built (network_stop n))
     (λ fine. cond_elim F (eqb parts.number 0) (record { number = 0; simulation = picked (queued_all (unqueued n c.child back parts)) }) (not_built parts.number)
-    (λ drawn. none-there _ c.child back l) (λ spent. refused parts.number))
+    (λ drawn. none-there (picked (queued_all (unqueued n c.child back parts))).on_line c.child back l) (λ spent. refused parts.number))
     (λ stop. refused (network_stop n))

@@ -15,7 +15,7 @@ use Rattle.quantities.specs.declared.information_rate.InformationRate.{Informati
 use Rattle.quantities.specs.Doubles.{power}
 use Rattle.quantities.specs.Units.{span_of, rate_of, amount_over_rate}
 use Rattle.quantities.specs.NewTime.{FineTime, Double}
-use Rattle.quantities.proofs.Ranges.{within}
+use Rattle.quantities.proofs.Ranges.{Within}
 use Rattle.draws.specs.declared.distribution.ContinuousDistribution.{ContinuousDistribution}
 use Rattle.draws.specs.Draws.{unit_of}
 use Rattle.link.specs.declared.link.Line.{Line}
@@ -50,10 +50,10 @@ use Rattle.remy.proofs.Steps.{cond_elim}
 -- ---- the new times of a part of an accepted network
 
 module _ (s : Simulation) (f : FitState s) (P : Time → Type 0)
-    (start : (bits : Information) (rate : InformationRate) → within (amount_over_rate bits rate).0 (power 40) → P (next_start s.head.clock bits rate))
-    (due : (delay : TimeSpan) → within delay.0 (power 40) → P (due_time s.head.clock delay))
-    (timer : (gap : Float) → within gap (power 40) → P (timer_in s.head.clock gap))
-    (toggle : (draw : Float) → within draw (power 40) → P (next_toggle_of s.head.clock draw)) where
+    (start : (bits : Information) (rate : InformationRate) → Within (amount_over_rate bits rate).0 (power 40) → P (next_start s.head.clock bits rate))
+    (due : (delay : TimeSpan) → Within delay.0 (power 40) → P (due_time s.head.clock delay))
+    (timer : (gap : Float) → Within gap (power 40) → P (timer_in s.head.clock gap))
+    (toggle : (draw : Float) → Within draw (power 40) → P (next_toggle_of s.head.clock draw)) where
   n : FitNetwork s.network
   n = accepted s f
 
@@ -121,7 +121,7 @@ Fine s ts = All (FineTime s.head.clock) ts
 pub part_fine : (s : Simulation) → Double s.head.clock → FitState s → lt (power 40) s.head.clock.0.0 ≡ false → (role : Role) → Real s.network role → Fine s (part_times s role)
 part_fine s double f early =
     let clock = s.head.clock in
-    let c : within clock.0.0 (power 40) = (from_zero s f, clock_bounded s f early) in
+    let c : Within clock.0.0 (power 40) = (from_zero s f, clock_bounded s f early) in
     part_has s f (FineTime clock) (next-start-fine clock c double) (due_time_fine clock c double) (timer_in_fine clock c double) (next-toggle-fine clock c double)
 
 -- ---- every state

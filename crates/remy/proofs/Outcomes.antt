@@ -235,7 +235,7 @@ module _ (n : RemyNetwork) where
   passed adm t p r mark time packet zero g = rw mark
   passed adm t p r mark time packet (suc m) g =
       let few = few_lines n (suc m) g in
-      rw (mark, time, packet) (at-line adm 1 (suc m) true t (named p) (sym (eq-eqb (suc m) 1 (omega (arith, few)))))
+      rw (mark, packet, time) (at-line adm 1 (suc m) true t (named p) (sym (eq-eqb (suc m) 1 (omega (arith, few)))))
 
 module _ {adm sts lvs : ℕ → List Entry} {snd : List Entry} {cnt : List PacketId} {s : Simulation} (f : FitState s) (early : lt (power 40) s.head.clock.0.0 ≡ false)
     (clock : Plain s.head.clock) (held : Holds plain s) (k : Kept s.network adm sts lvs snd cnt s) (l : ℕ) (h : l < line_count s.network) where
