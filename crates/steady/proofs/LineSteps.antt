@@ -15,7 +15,7 @@ use Rattle.quantities.specs.declared.time.Time.{Time}
 use Rattle.quantities.specs.Units.{span_of, rate_of, amount_of, amount_over_rate, span_after}
 use Rattle.quantities.specs.Doubles.{power}
 use Rattle.quantities.proofs.Order.{le_known_r, le_refl}
-use Rattle.quantities.proofs.Ranges.{within}
+use Rattle.quantities.proofs.Ranges.{Within}
 use Rattle.draws.specs.Draws.{unit_of}
 use Rattle.draws.proofs.ZeroWords.{zero_words}
 use Rattle.link.specs.declared.packet.Packet.{Packet}
@@ -229,9 +229,9 @@ module _ (s : Simulation) (b : Body s) (l : ℕ) (h : l < line_count s.network) 
     waiting_now = subst (All (WaitsOk s.network (sent_of s) s.head.clock)) split_waiting now.ok.waiting_ok
 
     -- it carries its sender's bits, so the time that it takes to start is small
-    sends-within : within (amount_over_rate (first_by s l x).bits (rate_of (values_of s.network l).rate)).0 (power 40)
+    sends-within : Within (amount_over_rate (first_by s l x).bits (rate_of (values_of s.network l).rate)).0 (power 40)
     sends-within =
-        subst (λ (n : ℕ). within (amount_over_rate (amount_of n) (rate_of (values_of s.network l).rate)).0 (power 40)) (sym waiting_now.0.carries)
+        subst (λ (n : ℕ). Within (amount_over_rate (amount_of n) (rate_of (values_of s.network l).rate)).0 (power 40)) (sym waiting_now.0.carries)
         (sending-within ok l (first_by s l x).packet.sender waiting_now.0.packet.own)
 
     grown-moving : items no_transit (with_begun s l x) l (pushed x.on_line) ≡ items no_transit s.on_line l x.on_line ++ (begun s l x ∷ [])

@@ -1,0 +1,6 @@
+-- `parts::blank_waiting` meets its contract: it is the literal of the definition. Assumes nothing.
+use borrow.Author.Rules.{rules}
+use Rattle.parts.proofs.blank_waiting.Goals as goal
+
+pub returns : goal.returns
+returns c = rw c.blank_packet-packet.ensures
