@@ -1,0 +1,40 @@
+-- The invariant: the counts of the first l lines, and the times of their links. The measure is what is left. Assumes nothing.
+use Prim.Native.Nat.{◌*◌, ◌-◌, ◌≤◌}
+use mathlib.Core.Path.{◌≡◌, ◌∙◌}
+use native.Mathlib.Omega.{arith}
+use lib.ListN.{length, length-set, length-replicate}
+use borrow.Author.Rules.{rules}
+use Rattle.toggler.specs.declared.tick_queue.Queued.{Queued}
+use Rattle.toggler.specs.Queue.{no_queued}
+use Rattle.clauses.specs.Tests.{lines_of, Counts, link_time, LinkTimes}
+use Rattle.clauses.proofs.Members.{counts-none, counts-one, counts_all, times_none, times-one, times-all}
+use Rattle.clauses.proofs.counts.under_way.Goals as goal
+
+pub loop-l-init : goal.loop-l-init
+loop-l-init c = (omega arith, counts-none _ _ _, length-replicate {A = Queued} 2 no_queued, times_none _ _)
+
+pub line_counts-found-requires : goal.line_counts-found-requires
+line_counts-found-requires c =
+    let pre = c.requires in
+    let more = c.loop-l-test.true in
+    (omega (arith, more, pre.0), c.loop-l.invariant.1.most, pre.1.each _ more)
+
+pub loop-l-preserved : goal.loop-l-preserved
+unfolding link_time
+loop-l-preserved c =
+    let L = c.loop-l in
+    let more = c.loop-l-test.true in
+    let few = c.requires.0 in
+    let F = c.line_counts-found.ensures in (
+      omega (arith, more),
+      counts-one _ _ _ L.l L.counts L.invariant.1 _ F.0,
+      length-set L.links L.l _ ∙ L.invariant.2,
+      times-one _ L.links L.l L.invariant.3 (omega (arith, more, few, L.invariant.2)) _ (rw (c.next_tick-time.ensures, F.1)),
+    )
+
+pub returns : goal.returns
+returns c =
+    let L = c.loop-l in (
+      counts_all _ _ _ L.l L.counts L.invariant.1 _ L.invariant.0 c.loop-l-test.false c.requires.0,
+      times-all _ L.links L.l _ L.invariant.3 c.loop-l-test.false,
+    )

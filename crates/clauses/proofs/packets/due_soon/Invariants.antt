@@ -1,0 +1,19 @@
+-- The invariant: the test of the transits from the i-th on is the test of all. The measure is what is left. Assumes nothing.
+use Prim.Native.Nat.{◌-◌, ◌≤◌}
+use mathlib.Core.Path.{◌≡◌, ap, ◌∙◌}
+use native.Mathlib.Omega.{arith}
+use borrow.Author.Rules.{rules}
+use lib.Ieee.{le}
+use Rattle.link.specs.Ring.{items_from}
+use Rattle.remy.specs.State.{no_transit}
+use Rattle.remy.specs.Fit.{every}
+use Rattle.clauses.specs.Tests.{soon_on_test}
+use Rattle.clauses.proofs.Turns.{rest, rest_all, every_goes, every-stops, every-done}
+use Rattle.clauses.proofs.packets.due_soon.Given as goal
+
+abbrev pub invariant-loop-i : goal.invariant-loop-i
+invariant-loop-i l =
+    (l.i ≤ l.count) × (every (λ x. le x.due.0.0 l.latest.0.0) (rest no_transit l.on_line l.l l.start l.count l.i) ≡ every (λ x. le x.due.0.0 l.latest.0.0) (items_from no_transit l.on_line l.l l.start l.count))
+
+abbrev pub decreases-loop-i : goal.decreases-loop-i
+decreases-loop-i l = l.count - l.i

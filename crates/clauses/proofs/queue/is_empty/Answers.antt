@@ -1,0 +1,25 @@
+-- The invariant: nothing is queued in the first k places. The measure is what is left. Assumes nothing.
+use Prim.Native.Nat.{◌-◌, ◌≤◌}
+use mathlib.Core.Path.{◌≡◌}
+use mathlib.Core.Bool.{true}
+use native.Mathlib.Omega.{arith}
+use borrow.Author.Rules.{rules}
+use Rattle.clauses.specs.Tests.{empty_test}
+use Rattle.clauses.proofs.Members.{empty-none, empty_goes, empty-stops, empty-done}
+use Rattle.clauses.proofs.queue.is_empty.Goals as goal
+
+pub loop-k-init : goal.loop-k-init
+loop-k-init c = (omega arith, empty-none _)
+
+pub returns-then-is_on : goal.returns-then-is_on
+returns-then-is_on c =
+    let S = c.is_on in empty-stops _ _ S.result S.ensures 35 c.loop-k-test.true c.if-is_on.true
+
+pub loop-k-preserved : goal.loop-k-preserved
+loop-k-preserved c =
+    let S = c.is_on in
+    (omega (arith, c.loop-k-test.true), empty_goes _ _ S.result S.ensures c.loop-k.invariant.1 c.if-is_on.false)
+
+pub returns : goal.returns
+returns c =
+    empty-done _ 35 c.loop-k.k c.loop-k.invariant.1 c.loop-k.invariant.0 c.loop-k-test.false

@@ -1,0 +1,18 @@
+-- The invariant: the first i senders are fit. The measure is what is left. Assumes nothing.
+use Prim.Native.Nat.{◌-◌, ◌≤◌}
+use mathlib.Core.Path.{◌≡◌}
+use mathlib.Core.Bool.{true}
+use native.Mathlib.Omega.{arith}
+use lib.ListN.{get_or}
+use borrow.Author.Tests.{not-true, not-false}
+use borrow.Author.Rules.{rules}
+use Rattle.clauses.specs.Tests.{senders_test}
+use Rattle.clauses.proofs.Members.{senders-none, senders_goes, senders-stops, senders-done}
+use Rattle.clauses.proofs.senders.senders_fit.Given as goal
+
+abbrev pub invariant-loop-i : goal.invariant-loop-i
+invariant-loop-i l =
+    (l.i ≤ l.n) × (senders_test l.policy (λ k. get_or l.sizes k 0) l.clock (λ k. get_or l.counts k 0) l.i l.senders l.togglers l.meters ≡ true)
+
+abbrev pub decreases-loop-i : goal.decreases-loop-i
+decreases-loop-i l = l.n - l.i

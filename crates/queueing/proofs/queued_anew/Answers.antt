@@ -1,0 +1,6 @@
+-- A place holds its time. Assumes nothing.
+use borrow.Author.Rules.{rules}
+use Rattle.queueing.proofs.queued_anew.Goals as goal
+
+pub returns : goal.returns
+returns c = rw c.time_anew-time.ensures

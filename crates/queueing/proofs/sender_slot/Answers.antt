@@ -1,0 +1,14 @@
+-- Each return rewrites by the tests and the cases that led there. Assumes nothing.
+use borrow.Author.Tests.{not-false, not-true}
+use borrow.Author.Rules.{rules}
+use Rattle.queueing.proofs.sender_slot.Goals as goal
+
+pub returns-then-not-changed : goal.returns-then-not-changed
+returns-then-not-changed c = rw (c.queued_anew.ensures, c.if-not-changed.true)
+
+pub returns : goal.returns
+returns c =
+    rw (
+      c.next_tick-time.ensures,
+      c.if-not-changed.false,
+    )
