@@ -20,6 +20,6 @@ returns-in-Part c =
     let O = c.part_time-own in
     rw (
       c.same_time.ensures,
-      part_seated _ _ _ _ a.t5 a.t6 _ _ I.ensures.1 O.result O.ensures,
+      part_seated _ _ _ _ a.senders a.togglers _ _ I.ensures.1 O.result O.ensures,
       c.in-Part.is,
     )

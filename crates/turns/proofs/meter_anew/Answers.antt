@@ -1,0 +1,6 @@
+-- A meter is its parts. Assumes nothing.
+use borrow.Author.Rules.{rules}
+use Rattle.turns.proofs.meter_anew.Goals as goal
+
+pub returns : goal.returns
+returns c = rw c.time_anew-current_start.ensures

@@ -1,0 +1,28 @@
+-- Each return rewrites by the tests and the cases that led there. Assumes nothing.
+use Rattle.turns.specs.Turns.{sender_acted}
+use borrow.Author.Rules.{rules}
+use Rattle.turns.proofs.sender_acts.Goals as goal
+
+pub returns-in_default : goal.returns-in_default
+unfolding sender_acted
+returns-in_default c = rw c.in_default.is
+
+pub returns-then-timer_due : goal.returns-then-timer_due
+unfolding sender_acted
+returns-then-timer_due c =
+    rw (
+      c.tick_timer-after.ensures,
+      c.in-Enabled.is,
+      ← c.timer_due.ensures,
+      c.if-timer_due.true,
+    )
+
+pub returns : goal.returns
+unfolding sender_acted
+returns c =
+    rw (
+      c.tick_send-t.ensures,
+      c.in-Enabled.is,
+      ← c.timer_due.ensures,
+      c.if-timer_due.false,
+    )

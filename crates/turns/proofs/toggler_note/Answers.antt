@@ -1,0 +1,9 @@
+-- Each return rewrites by the tests and the cases that led there. Assumes nothing.
+use borrow.Author.Rules.{rules}
+use Rattle.turns.proofs.toggler_note.Goals as goal
+
+pub returns-then-on : goal.returns-then-on
+returns-then-on c = rw c.if-on.true
+
+pub returns-else-on : goal.returns-else-on
+returns-else-on c = rw c.if-on.false
