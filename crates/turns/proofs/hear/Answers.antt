@@ -3,11 +3,6 @@ use Rattle.turns.specs.Turns.{heard_by}
 use borrow.Author.Rules.{rules}
 use Rattle.turns.proofs.hear.Goals as goal
 
--- TODO record-lending-requires
--- record-lending-requires : tie.Need-record-lending-requires
-
-record-lending-requires c κs = search rules
-
 pub returns-in-Nobody : goal.returns-in-Nobody
 unfolding heard_by
 returns-in-Nobody c = rw (c.meter_anew-meter.ensures, c.sender_anew-sender.ensures, c.in-Nobody.is)
