@@ -1,31 +1,28 @@
 -- `builder::queue::pick_next` meets its contract: the picked part is a place of the queue, and the parts of the state are those of `picked`.
 -- Assumes nothing.
-use Prim.Native.Nat.{◌<◌}
-use mathlib.Core.Path.{◌≡◌}
+use Rattle.std.proofs.Common.{◌≡◌, ◌<◌, arith, rules}
 use lib.ListN.{length, length-map}
-use borrow.Author.Rules.{rules}
 use Rattle.toggler.specs.Queue.{queue_places}
 use Rattle.queueing.proofs.Picks.{part_inside, picks}
 use Rattle.builder.proofs.queue.pick_next.Goals as goal
 use Rattle.builder.proofs.queue.pick_next.Goals.{After-pick-best}
 
+inside : (p : After-pick-best) → p.pick-best.result.part < queue_places
+inside p =
+    let full : length p.args.simulation.queue ≡ queue_places = p.well_formed.0.1.1.1.1.1.1.1.1.1.1.0.1.0.1 in
+    part_inside _ _ p.pick-best.ensures full
+
 pub bounds-queue-part : goal.bounds-queue-part
-bounds-queue-part c =
-    let full : length c.args.simulation.queue ≡ queue_places = simp length-map at c.well-formed.0.1.1.1.1.1.1.1.1.1.1.0.1.0.1 in
-    part_inside _ _ c.pick-best.ensures full
+bounds-queue-part c = inside (goal.at.bounds-queue-part c).After-pick-best
 
--- TODO overflow-mul-old
--- mul-old : tie.Need-overflow-mul-old
+pub offset_bounds-queue-part : goal.offset_bounds-queue-part
+offset_bounds-queue-part c = let within = inside (goal.at.offset_bounds-queue-part c).After-pick-best in omega (arith, within)
 
-mul-old c = let inside : c.pick.result.part < queue_places = array-copy-out-old c in search rules
-
--- TODO overflow-mul-place
--- mul-place : tie.Need-overflow-mul-place
-
-mul-place c = let inside : c.before.before.before.pick.result.part < queue_places = array-copy-out-old c.before.before.before in search rules
+pub offset_bounds-out-part : goal.offset_bounds-out-part
+offset_bounds-out-part c = let within = inside (goal.at.offset_bounds-out-part c).After-pick-best in omega (arith, within)
 
 pub bounds-out-part : goal.bounds-out-part
-bounds-out-part c = array-copy-out-old (goal.at.bounds-out-part c).After-pick-best
+bounds-out-part c = inside (goal.at.bounds-out-part c).After-pick-best
 
 pub returns : goal.returns
 returns c =

@@ -20,7 +20,7 @@ use Rattle.queueing.specs.declared.Now.{Now}
 use Rattle.queueing.specs.Queueing.{now_role}
 use Rattle.builder.proofs.Places.{TimeAs, time_as, one-queued, all_queued_lem}
 use Rattle.builder.proofs.queue.queue_all.Goals as goal
-use Rattle.builder.proofs.queue.queue_all.Goals.{After-role-now, In-Link, In-Link-1, In-Sender, In-Toggler}
+use Rattle.builder.proofs.queue.queue_all.Goals.{After-role-now, In-Link, In-Sender, In-Toggler}
 
 abbrev whole : After-role-now → Simulation
 whole p = p.args.simulation
@@ -45,16 +45,17 @@ filled p x e =
 
 line-there : (p : In-Link) → p.in-Link.l < 2
 line-there p =
+    let r = p.before in
     omega (arith, lines_few (has_back (whole r).network.back), (time-known r _ p.in-Link.is).0)
 
-front-there : (p : In-Link) → (line_at (whole p.before.before.before) p.in-Link.l).on_line.start < places
-front-there p = p.requires.1 _ (time-known r _ p.in-Link.is).0
+front-there : (p : In-Link) → (line_at (whole p.before) p.in-Link.l).on_line.start < places
+front-there p = let r = p.before in p.requires.1 _ (time-known r _ p.in-Link.is).0
 
 sender-there : (p : In-Sender) → p.in-Sender.i < 16
-sender-there p = omega (arith, p.requires.0, (time-known r _ p.in-Sender.is).0)
+sender-there p = let r = p.before in omega (arith, p.requires.0, (time-known r _ p.in-Sender.is).0)
 
 toggler-there : (p : In-Toggler) → p.in-Toggler.i < 16
-toggler-there p = omega (arith, p.requires.0, (time-known r _ p.in-Toggler.is).0)
+toggler-there p = let r = p.before in omega (arith, p.requires.0, (time-known r _ p.in-Toggler.is).0)
 
 pub loop-k-init : goal.loop-k-init
 loop-k-init c = (omega arith, refl, refl)
@@ -83,7 +84,7 @@ bounds-simulation-start c = omega (arith, line-there (goal.at.bounds-simulation-
 pub loop-k-preserved-in-Link : goal.loop-k-preserved-in-Link
 unfolding own_time
 loop-k-preserved-in-Link c =
-    filled (goal.at.loop-k-preserved-in-Link c).In-Link-1 _ (ap (λ (t : OptionTime). record { time = t }) (c.next_tick-time.ensures ∙ sym (time-known (goal.at.loop-k-preserved-in-Link c).In-Link-1 _ c.in-Link.is).1))
+    filled (goal.at.loop-k-preserved-in-Link c).After-role-now _ (ap (λ (t : OptionTime). record { time = t }) (c.next_tick-time.ensures ∙ sym (time-known (goal.at.loop-k-preserved-in-Link c).After-role-now _ c.in-Link.is).1))
 
 pub offset_bounds-simulation-i : goal.offset_bounds-simulation-i
 offset_bounds-simulation-i c = omega (arith, sender-there c)
