@@ -5,7 +5,6 @@ use mathlib.Core.Path.{refl, sym, ◌∙◌}
 use native.Mathlib.Omega.{arith}
 use lib.ListN.{length}
 use borrow.Author.Rules.{rules}
-use borrow.Author.Tests.{not-true, not-false}
 use Rattle.notation.proofs.Words.{Passed, passed_none, passed-more, word_some, word-ends, word-long}
 use Rattle.notation.specs.InPlace.{InPlace}
 use Rattle.notation.proofs.scan.word.Code as code
