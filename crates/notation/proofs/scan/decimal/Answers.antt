@@ -1,13 +1,12 @@
 -- `notation::scan::decimal` meets its contract: all digits are read, there are some and no zero leads others, and the byte ends them. Any other text has no whole number there.
 -- Assumes nothing.
 use Prim.Native.Nat.{ℕ}
-use mathlib.Core.Path.{◌≡◌, refl, sym, ap, ◌∙◌}
+use mathlib.Core.Path.{refl, sym, ap, ◌∙◌}
 use mathlib.Core.Bool.{false≢true}
 use mathlib.Core.List.{List}
 use native.Mathlib.Omega.{arith}
-use lib.ListN.{length, drop, get_or}
-use borrow.Author.Rules.{rules}
-use Rattle.notation.specs.Reading.{SomeDigits, NoDigit, led_by_zero}
+use lib.ListN.{length, get_or}
+use Rattle.notation.specs.Reading.{led_by_zero}
 use Rattle.notation.proofs.Written.{decimal_fair, run_spelt}
 use Rattle.notation.proofs.Numbers.{decimal, ended_too_large, ended_unspelt, ended_open, ended-found, some_within, some_led}
 use Rattle.notation.specs.InPlace.{InPlace}

@@ -2,7 +2,6 @@
 -- Assumes nothing.
 use Prim.Native.Nat.{ℕ}
 use mathlib.Core.Path.{refl, subst}
-use borrow.Author.Rules.{rules}
 use Rattle.notation.specs.Reading.{SomeWord}
 use Rattle.notation.proofs.Words.{key_other, key_none}
 use Rattle.notation.specs.InPlace.{InPlace}
