@@ -1,5 +1,6 @@
 // The text of a description of a network, read (document 01, "The text program").
 #![tactic(auto)]
+
 ghost use Rattle.std.specs.Prelude.{◌≡◌};
 ghost use Rattle.description.specs.Text.{ReadIs, answer_of, malformed};
 ghost use Rattle.description.specs.Lines.{gathered_of};

@@ -133,19 +133,23 @@ led_other x k h = rw (ne_eqb x 48 h) (same (eqb k 1))
     same true = refl
     same false = refl
 
--- a run that no zero leads is the decimal of its value
-pub run_spelt : {v : ℕ} {s : List ℕ} → Run 10 0 s v → 0 < length s → led_by_zero (get_or s 0 0) (length s) ≡ false → s ≡ decimal_of v
-run_spelt ends p e = absurd (omega arith)
-run_spelt (digit d h ends) p e = sym (ap decimal_of (zero_start d) ∙ decimal_low d h)
-run_spelt (digit d h (digit {s = s} k l r)) p e =
-    sym (run_decimal positive (digit k l r) ∙ ap (λ (x : List ℕ). x ++ (digit_byte k ∷ s)) (ap decimal_of (zero_start d) ∙ decimal_low d h))
+-- a digit, and a run after its value, where no zero leads
+spelt_after : {n v : ℕ} {s : List ℕ} (d : ℕ) → d < 10 → n ≡ d → Run 10 n s v → led_by_zero (digit_byte d) (suc (length s)) ≡ false → digit_byte d ∷ s ≡ decimal_of v
+spelt_after d h q ends e = sym (ap decimal_of q ∙ decimal_low d h)
+spelt_after {n} d h q (digit {s = s} k l r) e =
+    sym (run_decimal positive (digit k l r) ∙ ap (λ (x : List ℕ). x ++ (digit_byte k ∷ s)) (ap decimal_of q ∙ decimal_low d h))
   where
-    positive : 0 < 0 * 10 + d
+    positive : 0 < n
     positive =
         ⊎_elim
         (λ z. absurd (eqb-false (digit_byte d) 48 (sym (led_many (digit_byte d) (length s)) ∙ e) (low_digit d h ∙ (let q : 48 + d ≡ 48 = omega arith in q))))
         (λ p. omega arith)
         (eq-zero-or-pos d)
+
+-- a run that no zero leads is the decimal of its value
+pub run_spelt : {v : ℕ} {s : List ℕ} → Run 10 0 s v → 0 < length s → led_by_zero (get_or s 0 0) (length s) ≡ false → s ≡ decimal_of v
+run_spelt ends p e = absurd (omega arith)
+run_spelt (digit d h r) p e = spelt_after d h (zero_start d) r e
 
 -- the first digit of a decimal: above 0 unless the number is 0, and alone where the number is below 10
 record First (n : ℕ) : Type 0 where

@@ -1,5 +1,6 @@
 // The printed lines, put into a lent buffer at a position.
 #![tactic(auto)]
+
 ghost use Rattle.std.specs.Prelude.{◌+◌, ◌-◌, ◌≤◌, ◌<◌, ◌≡◌, [], ◌∷◌, ◌++◌, length};
 ghost use Rattle.notation.specs.Notation.{digits_of, hex_of, decimal_of};
 ghost use Rattle.printer.specs.Printing.{Wrote, PutIs, packet_text, measured_text, record_text, stop_text, refused_text, flow_text};

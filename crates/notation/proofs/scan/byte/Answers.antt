@@ -2,7 +2,6 @@
 -- Assumes nothing.
 use mathlib.Core.List.{[], ◌∷◌}
 use mathlib.Core.Path.{refl}
-use borrow.Author.Rules.{rules}
 use Rattle.notation.proofs.Digits.{at_end, at_other, at_byte}
 use Rattle.notation.proofs.Words.{byte_absent, word-found}
 use Rattle.notation.specs.InPlace.{InPlace}

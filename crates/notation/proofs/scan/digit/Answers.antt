@@ -2,7 +2,6 @@
 -- Assumes nothing.
 use mathlib.Core.Path.{refl}
 use native.Mathlib.Omega.{arith}
-use borrow.Author.Rules.{rules}
 use Rattle.notation.proofs.Digits.{digit_low, digit_high, digit_none}
 use Rattle.notation.specs.InPlace.{InPlace}
 use Rattle.notation.proofs.scan.digit.Code as code

@@ -4,8 +4,6 @@ use mathlib.Core.Path.{refl}
 use Prim.Native.Nat.{ℕ, ◌+◌, ◌*◌, ◌/◌, ◌≤◌, ◌<◌, ◌-◌}
 use native.Mathlib.Nat.{div-lt_iff_lt-mul, le-div_iff_mul-le}
 use native.Mathlib.Omega.{arith}
-use lib.ListN.{length}
-use Rattle.notation.specs.Reading.{SomeDigits}
 use Rattle.notation.proofs.Digits.{some_none, some_more, some_over, last_end, last_other}
 use Rattle.notation.specs.InPlace.{InPlace}
 use Rattle.notation.proofs.scan.digits.Code as code
@@ -21,20 +19,11 @@ within v b d most p h l = let z = (le-div_iff_mul-le p).0 l in omega arith
 pub loop-next-init : goal.loop-next-init
 loop-next-init c = some_none _ _ _ _
 
-pub bounds-text-next : goal.bounds-text-next
-bounds-text-next c = omega arith
-
-pub digit-d-requires : goal.digit-d-requires
-digit-d-requires c = tt
-
 pub returns-then-base-d : goal.returns-then-base-d
 returns-then-base-d c = (c.loop-next.invariant, last_other _ _ _ _ c.requires.1 c.loop-next-test.true c.digit-d.ensures c.if-base-d.true)
 
 pub returns-then-most-d : goal.returns-then-most-d
 returns-then-most-d c = some_over _ _ _ _ c.loop-next.invariant c.loop-next-test.true _ (c.digit-d.ensures.byte (omega arith)) c.if-base-d.false c.requires.0 c.requires.1 (omega arith)
-
-pub nonzero_div-most : goal.nonzero_div-most
-nonzero_div-most c = omega arith
 
 pub returns-then-most-d-2 : goal.returns-then-most-d-2
 returns-then-most-d-2 c = some_over _ _ _ _ c.loop-next.invariant c.loop-next-test.true _ (c.digit-d.ensures.byte (omega arith)) c.if-base-d.false c.requires.0 c.requires.1 (above _ _ _ _ c.requires.0 c.if-most-d.false c.if-most-d-2.true)
@@ -44,12 +33,6 @@ overflow_mul-value c = record { fits = omega (arith, within c.loop-next.value c.
 
 pub overflow_add-value : goal.overflow_add-value
 overflow_add-value c = record { fits = omega (arith, within c.loop-next.value c.args.base c.digit-d.result c.args.most c.requires.0 c.if-most-d.false c.if-most-d-2.false, c.ranges.most.fits) }
-
-pub overflow_add-next : goal.overflow_add-next
-overflow_add-next c = omega arith
-
-pub loop-next-smaller : goal.loop-next-smaller
-loop-next-smaller c = omega arith
 
 pub loop-next-preserved : goal.loop-next-preserved
 loop-next-preserved c = some_more _ _ _ _ c.loop-next.invariant c.loop-next-test.true _ (c.digit-d.ensures.byte (omega arith)) c.if-base-d.false (within _ _ _ _ c.requires.0 c.if-most-d.false c.if-most-d-2.false)

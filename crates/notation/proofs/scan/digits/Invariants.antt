@@ -1,14 +1,8 @@
 -- `notation::scan::digits` meets its contract. The invariant: what was passed is a run of digits with the value so far. The measure is what is left of the text. A digit more is another such run, or shows that the value passes `most`; a byte that is no digit ends the run.
 -- Assumes nothing.
-use mathlib.Core.Path.{refl}
-use Prim.Native.Nat.{ℕ, ◌+◌, ◌*◌, ◌/◌, ◌≤◌, ◌<◌, ◌-◌}
-use native.Mathlib.Nat.{div-lt_iff_lt-mul, le-div_iff_mul-le}
-use native.Mathlib.Omega.{arith}
+use Prim.Native.Nat.{◌-◌}
 use lib.ListN.{length}
 use Rattle.notation.specs.Reading.{SomeDigits}
-use Rattle.notation.proofs.Digits.{some_none, some_more, some_over, last_end, last_other}
-use Rattle.notation.specs.InPlace.{InPlace}
-use Rattle.notation.proofs.scan.digits.Code as code
 use Rattle.notation.proofs.scan.digits.Given as goal
 
 abbrev pub invariant-loop-next : goal.invariant-loop-next

@@ -3,7 +3,6 @@
 use mathlib.Core.Path.{refl, ap}
 use native.Mathlib.Omega.{arith}
 use lib.ListN.{length}
-use borrow.Author.Rules.{rules}
 use Rattle.notation.proofs.Written.{hex_length, run_hex}
 use Rattle.notation.proofs.Numbers.{hexadecimal, ended_too_large, ended_unspelt, ended_open, ended-found}
 use Rattle.notation.specs.InPlace.{InPlace}

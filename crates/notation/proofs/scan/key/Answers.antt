@@ -2,29 +2,22 @@
 -- Assumes nothing.
 use Prim.Native.Nat.{ℕ}
 use mathlib.Core.Path.{refl, subst}
-use borrow.Author.Rules.{rules}
 use Rattle.notation.specs.Reading.{SomeWord}
 use Rattle.notation.proofs.Words.{key_other, key_none}
 use Rattle.notation.specs.InPlace.{InPlace}
 use Rattle.notation.proofs.scan.key.Code as code
 use Rattle.notation.proofs.scan.key.Goals as goal
 
--- the word that was read
-read : (p : goal.In-At-2) → let a = p.args in
-    SomeWord a.text.now a.at p.in-At.value p.in-At.next
-read p = rw p.in-At.is at p.word.ensures
-
 pub returns-then-value-key : goal.returns-then-value-key
 returns-then-value-key c =
     let a = c.args in
-    subst (λ (v : ℕ). SomeWord a.text.now a.at v c.in-At.next) c.if-value-key.true (read (goal.at.returns-then-value-key c).In-At-2)
+    subst (λ (v : ℕ). SomeWord a.text.now a.at v c.in-At.next) c.if-value-key.true (rw c.in-At.is at c.word.ensures)
 
 pub returns-else-value-key : goal.returns-else-value-key
-returns-else-value-key c = key_other r (read (goal.at.returns-else-value-key c).In-At-2) c.if-value-key.false
+returns-else-value-key c w r = key_other r (rw c.in-At.is at c.word.ensures) c.if-value-key.false
 
 pub returns-in-Refused : goal.returns-in-Refused
-returns-in-Refused c =
-    key_none r (rw c.in-Refused.is at c.word.ensures) c.ranges.key.fits
+returns-in-Refused c w r = key_none r (rw c.in-Refused.is at c.word.ensures) c.ranges.key.fits
 
 in_place : InPlace code.function
 in_place = refl

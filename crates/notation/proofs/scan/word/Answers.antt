@@ -1,12 +1,8 @@
 -- `notation::scan::word` meets its contract. The invariant: what was passed is letters with the value so far. The measure is what is left of the text.
 -- Assumes nothing.
-use Prim.Native.Nat.{◌-◌}
 use mathlib.Core.Path.{refl, sym, ◌∙◌}
 use native.Mathlib.Omega.{arith}
-use lib.ListN.{length}
-use borrow.Author.Rules.{rules}
-use borrow.Author.Tests.{not-true, not-false}
-use Rattle.notation.proofs.Words.{Passed, passed_none, passed-more, word_some, word-ends, word-long}
+use Rattle.notation.proofs.Words.{passed_none, passed-more, word_some, word-ends, word-long}
 use Rattle.notation.specs.InPlace.{InPlace}
 use Rattle.notation.proofs.scan.word.Code as code
 use Rattle.notation.proofs.scan.word.Goals as goal
@@ -17,26 +13,8 @@ loop-next-init c = passed_none _ _
 pub returns-then-value-gt72057594037927935 : goal.returns-then-value-gt72057594037927935
 returns-then-value-gt72057594037927935 c = word-long _ _ _ _ c.loop-next.invariant (omega (arith, c.if-value-gt72057594037927935.true))
 
-pub bounds-text-next : goal.bounds-text-next
-bounds-text-next c = omega arith
-
-pub overflow_mul-value : goal.overflow_mul-value
-overflow_mul-value c = omega arith
-
-pub overflow_cast-value : goal.overflow_cast-value
-overflow_cast-value c = let b = c.shared_slice_known-in-loop-next-1.given c.loop-next.next in record { fits = omega (arith, b.fits) }
-
-pub overflow_add-value : goal.overflow_add-value
-overflow_add-value c = let b = c.shared_slice_known-in-loop-next-1.given c.loop-next.next in record { fits = omega (arith, b.fits) }
-
-pub overflow_add-next : goal.overflow_add-next
-overflow_add-next c = omega arith
-
 pub returns-then-not-letter : goal.returns-then-not-letter
-returns-then-not-letter c = word_some _ _ _ _ c.loop-next.invariant c.loop-next-test.true (let b = c.shared_slice_known-in-loop-next-1.given c.loop-next.next in omega (arith, b.fits)) (sym c.letter.ensures ∙ c.if-not-letter.true)
-
-pub loop-next-smaller : goal.loop-next-smaller
-loop-next-smaller c = omega arith
+returns-then-not-letter c = word_some _ _ _ _ c.loop-next.invariant c.loop-next-test.true (omega arith) (sym c.letter.ensures ∙ c.if-not-letter.true)
 
 pub loop-next-preserved : goal.loop-next-preserved
 loop-next-preserved c = passed-more _ _ _ _ c.loop-next.invariant c.loop-next-test.true (sym c.letter.ensures ∙ c.if-not-letter.false)
