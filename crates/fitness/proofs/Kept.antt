@@ -1,7 +1,6 @@
 -- What the fit test and the test of the due times say of a steady state. Assumes nothing.
 use mathlib.Core.Path.{◌≡◌, sym, ap, ◌∙◌}
-use mathlib.Core.Bool.{Bool, true, false, not}
-use borrow.Author.Tests.{not-true, not-false}
+use mathlib.Core.Bool.{Bool, true, false}
 use Prim.Native.Nat.{ℕ}
 use Rattle.remy.specs.declared.simulation.Simulation.{Simulation}
 use Rattle.remy.specs.State.{line_count}
@@ -20,13 +19,13 @@ module _ (s : Simulation) where
       up_same _ _ (line_count s.network) (λ l h. rw (values_same s.network l))
 
   module _ (r : Bool) (e : r ≡ fit s) where
-    pub not_steady : not r ≡ true → false ≡ steady s
+    pub not_steady : r ≡ false → false ≡ steady s
     unfolding steady
-    not_steady t = rw (sym e ∙ not-true r t)
+    not_steady t = rw (sym e ∙ t)
 
-    module _ (t : not r ≡ false) where
+    module _ (t : r ≡ true) where
       passed : fit s ≡ true
-      passed = sym e ∙ not-false r t
+      passed = sym e ∙ t
 
       pub rings_bounds : AllInRings s.lines (line_count s.network)
       unfolding rings_fit rings_test

@@ -1,0 +1,9 @@
+-- A packet that is named keeps its numbers. Assumes nothing.
+use borrow.Author.Rules.{rules}
+use Rattle.lines.proofs.named.Goals as goal
+
+pub returns-in-None : goal.returns-in-None
+returns-in-None c = rw c.in-None.is
+
+pub returns-in-Packet : goal.returns-in-Packet
+returns-in-Packet c = rw c.in-Packet.is
