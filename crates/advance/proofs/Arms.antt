@@ -147,7 +147,8 @@ put_line s at (Begun.Starts x) = refl
 
 acted : (s : Simulation) (l : ℕ) → length s.lines ≡ 2 → l < 2 → (at : ℕ) (x : Line) (begun : Begun) → requeue (with_line (put_on_line s at begun) l x) (link l) ≡ acted_state s l at x begun
 unfolding requeue own_time
-acted s l full few at x begun = rw (put_line s at begun, get_or-set_same s.lines l x no_line (omega (arith, full, few)))
+acted s l full few at x begun =
+    ap (λ (m : Simulation). requeue (with_line m l x) (link l)) (put_line s at begun) ∙ rw (get_or-set_same s.lines l x no_line (omega (arith, full, few)))
 
 -- ---- the packet that left comes to its sender, or none left
 

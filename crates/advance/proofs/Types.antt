@@ -1,15 +1,17 @@
 -- What the type of a simulation says of one that code has: its arrays have all their places, and the times that can become the clock are doubles. Read off what owning
 -- a value tells, which is computed from its type. Assumes nothing.
 use mathlib.Core.Path.{◌≡◌}
-use mathlib.Core.List.{List, [], ◌∷◌, map}
+use mathlib.Core.List.{List, [], ◌∷◌}
 use Prim.Native.Nat.{ℕ, zero, suc}
-use lib.ListN.{length, get_or, length-map}
+use lib.ListN.{length, get_or}
 use lib.Ieee.{binary64, fits}
 use lib.Ieee.Fits.{nan-fits}
 use mir.Val.{Val}
 use denote.Shadow.{shadow}
 use denote.Array.{each}
-use denote.Struct.Field.{Field, array_field}
+use denote.RattleType.{RattleType}
+use denote.Builtin.{One, Array}
+use denote.Struct.Field.{Field, row_field}
 use Rattle.quantities.specs.declared.time.Time.{Time}
 use Rattle.quantities.specs.declared.time.OptionTime.{OptionTime}
 use Rattle.quantities.specs.declared.time.OptionTime.TheVariants.{None, Some}
@@ -44,11 +46,11 @@ Owning F x vs = shadow (F.row.own_val (F.into x) vs)
 
 -- ---- arrays
 
-array_all : (F : Field) (P : F.Value → Type 0) → ((x : F.Value) (vs : List Val) → Owning F x vs → P x)
-    → (xs : List F.Value) (us : List Val) → shadow (each F.row.Denot F.row.own_val (map F.into xs) us) → All P xs
-array_all F P f [] us p = tt
-array_all F P f (x ∷ xs) [] p = absurd p
-array_all F P f (x ∷ xs) (u ∷ us) p = (f x (u ∷ []) p.0, array_all F P f xs us p.1)
+array_all : (R : RattleType) (P : R.Denot → Type 0) → ((x : R.Denot) (vs : List Val) → shadow (R.own_val x vs) → P x)
+    → (xs : List R.Denot) (us : List Val) → shadow (each R.Denot R.own_val xs us) → All P xs
+array_all R P f [] us p = tt
+array_all R P f (x ∷ xs) [] p = absurd p
+array_all R P f (x ∷ xs) (u ∷ us) p = (f x (u ∷ []) p.0, array_all R P f xs us p.1)
 
 -- at every index, past the end too
 all_index : {A : Type 0} (P : A → Type 0) (d : A) → P d → (xs : List A) → All P xs → (i : ℕ) → P (get_or xs i d)
@@ -56,12 +58,12 @@ all_index P d p [] a i = p
 all_index P d p (x ∷ xs) a zero = a.0
 all_index P d p (x ∷ xs) a (suc i) = all_index P d p xs a.1 i
 
-module _ (F : Field) (n : ℕ) (xs : List F.Value) (vs : List Val) (p : Owning (array_field F n) xs vs) where
+module _ (R : RattleType) (one : One R.mir) (n : ℕ) (xs : List R.Denot) (vs : List Val) (p : Owning (row_field (Array R one n)) xs vs) where
   full_array : length xs ≡ n
-  full_array = simp length-map at p.1.0.1
+  full_array = p.1.0.1
 
-  told_at : (P : F.Value → Type 0) (d : F.Value) → P d → ((x : F.Value) (us : List Val) → Owning F x us → P x) → (i : ℕ) → P (get_or xs i d)
-  told_at P d q f = all_index P d q xs (array_all F P f xs p.0 p.1.1)
+  told_at : (P : R.Denot → Type 0) (d : R.Denot) → P d → ((x : R.Denot) (us : List Val) → shadow (R.own_val x us) → P x) → (i : ℕ) → P (get_or xs i d)
+  told_at P d q f = all_index P d q xs (array_all R P f xs p.0 p.1.1)
 
 -- ---- the doubles of each type
 
@@ -83,30 +85,30 @@ typed s vs p =
     record {
       full =
           record {
-            lines = full_array Line.the_field 2 s.lines _ p.1.1.1.1.0;
-            waiting = full_array Waiting.the_field 1024 s.waiting _ p.1.1.1.1.1.0;
-            moving = full_array Transit.the_field 1024 s.on_line _ p.1.1.1.1.1.1.0;
-            senders = full_array Sender.the_field 16 s.senders _ p.1.1.1.1.1.1.1.0;
-            togglers = full_array Toggler.the_field 16 s.togglers _ p.1.1.1.1.1.1.1.1.0;
-            meters = full_array Meter.the_field 16 s.meters _ p.1.1.1.1.1.1.1.1.1.0;
-            queue = full_array Queued.the_field 35 s.queue _ p.1.1.1.1.1.1.1.1.1.1.0;
+            lines = full_array Line.the_row (tt {0}) 2 s.lines _ p.1.1.1.1.0;
+            waiting = full_array Waiting.the_row (tt {0}) 1024 s.waiting _ p.1.1.1.1.1.0;
+            moving = full_array Transit.the_row (tt {0}) 1024 s.on_line _ p.1.1.1.1.1.1.0;
+            senders = full_array Sender.the_row (tt {0}) 16 s.senders _ p.1.1.1.1.1.1.1.0;
+            togglers = full_array Toggler.the_row (tt {0}) 16 s.togglers _ p.1.1.1.1.1.1.1.1.0;
+            meters = full_array Meter.the_row (tt {0}) 16 s.meters _ p.1.1.1.1.1.1.1.1.1.0;
+            queue = full_array Queued.the_row (tt {0}) 35 s.queue _ p.1.1.1.1.1.1.1.1.1.1.0;
           };
       clock = time-double s.head.clock _ p.1.1.1.0.1.1.0;
       held =
           record {
             free = λ l h.
-                told_at Line.the_field 2 s.lines _ p.1.1.1.1.0 (λ x. Double x.earliest_transmit) no_line (nan-fits binary64) (λ x us q. time-double x.earliest_transmit _ q.1.1.0) l;
+                told_at Line.the_row (tt {0}) 2 s.lines _ p.1.1.1.1.0 (λ x. Double x.earliest_transmit) no_line (nan-fits binary64) (λ x us q. time-double x.earliest_transmit _ q.1.1.0) l;
             due = λ l h.
                 all_member Double (due_times s l)
                 (all_mapped Double (λ x. x.due) (on_line_items s l)
                 (items-all (λ x. Double x.due) no_transit s.on_line l (line_at s l).on_line
-                (told_at Transit.the_field 1024 s.on_line _ p.1.1.1.1.1.1.0 (λ x. Double x.due) no_transit (nan-fits binary64) (λ x us q. time-double x.due _ q.1.1.1.0))));
+                (told_at Transit.the_row (tt {0}) 1024 s.on_line _ p.1.1.1.1.1.1.0 (λ x. Double x.due) no_transit (nan-fits binary64) (λ x us q. time-double x.due _ q.1.1.1.0))));
             timer = λ i h.
-                told_at Sender.the_field 16 s.senders _ p.1.1.1.1.1.1.1.0 (λ x. IfAny Double (timer_of x.state)) no_sender tt (λ x us q. state-double x.state _ q.1.1.1.0) i;
+                told_at Sender.the_row (tt {0}) 16 s.senders _ p.1.1.1.1.1.1.1.0 (λ x. IfAny Double (timer_of x.state)) no_sender tt (λ x us q. state-double x.state _ q.1.1.1.0) i;
             toggle = λ i h.
-                told_at Toggler.the_field 16 s.togglers _ p.1.1.1.1.1.1.1.1.0 (λ x. Double x.next_toggle) no_toggler (nan-fits binary64)
+                told_at Toggler.the_row (tt {0}) 16 s.togglers _ p.1.1.1.1.1.1.1.1.0 (λ x. Double x.next_toggle) no_toggler (nan-fits binary64)
                 (λ x us q. time-double x.next_toggle _ q.1.1.1.0) i;
             queued = λ j h.
-                told_at Queued.the_field 35 s.queue _ p.1.1.1.1.1.1.1.1.1.1.0 (λ x. IfAny Double x.time) no_queued tt (λ x us q. option_double x.time _ q.1.1.0) j;
+                told_at Queued.the_row (tt {0}) 35 s.queue _ p.1.1.1.1.1.1.1.1.1.1.0 (λ x. IfAny Double x.time) no_queued tt (λ x us q. option_double x.time _ q.1.1.0) j;
           };
     }
