@@ -1,5 +1,5 @@
 /* The run of a description, as the program remyline prints it, in a lent buffer.
-   `rt staticlib sweep` writes the library, target/staticlib/libsweep.a (x86-64 Linux). */
+   sweeps/README.md has the commands that make the library, target/libsweep.a (x86-64 Linux). */
 #ifndef REMYLINE_H
 #define REMYLINE_H
 

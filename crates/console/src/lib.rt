@@ -1,6 +1,7 @@
 // The text program (document 01, "The text program") over standard input and output. No contract sees
 // what is read or written: these say which bytes are handed to the writes.
 #![tactic(auto)]
+
 ghost use Rattle.std.specs.Prelude.{◌≤◌, length};
 ghost use mathlib.Core.List.{flatten};
 ghost use Rattle.report.specs.Report.{left_of, report_of, ForText};
@@ -24,22 +25,22 @@ struct Turn {
 
 // Reads a text from standard input and prints its report. No description has as many bytes as the
 // buffer, so what is read of a longer input is none.
-pub fn run() {
+pub fn run(rt: &HostRuntime) {
     let mut text = [0u8; 4096];
-    let got = input::fill(&mut text);
-    print_text(&text[..got]);
+    let got = input::fill(&mut rt.stdin(), &mut text);
+    print_text(rt, &text[..got]);
 }
 
 // Prints the report of a text: as many bytes are handed over as it has, unless a write fails.
-fn print_text(text: &[u8]) -> Handed
+fn print_text(rt: &HostRuntime, text: &[u8]) -> Handed
     ensures { ForText text.now (λ d. HandedIs (length (flatten (left_of (report_of d)))) result) }
 {
-    print(report::report_of(text))
+    print(rt, report::report_of(text))
 }
 
 // Prints a report turn by turn. There are at most 65,536 records, a stop line and 16 flows, and each
 // turn has a line at least, so the turns are enough.
-fn print(report: Report) -> Handed
+fn print(rt: &HostRuntime, report: Report) -> Handed
     requires { length (left_of report) ≤ 65553 }
     ensures { HandedIs (length (flatten (left_of report))) result }
 {
@@ -50,7 +51,7 @@ fn print(report: Report) -> Handed
         let t = next_turn(left);
         let bytes = t.bytes;
         let n = t.count;
-        match output::hand(tally, &bytes[..n]) {
+        match output::hand(rt, tally, &bytes[..n]) {
             Handed::All(after) => {
                 if t.done {
                     return Handed::All(after);
@@ -72,7 +73,7 @@ fn print(report: Report) -> Handed
 fn next_turn(report: Report) -> Turn
     ensures { TurnIs report result }
 {
-    let mut bytes = io::large_buffer();
+    let mut bytes = [0u8; 65536];
     let f = filling::fill(&mut bytes, report);
     let count = f.at;
     let done = f.done;

@@ -24,13 +24,13 @@ pub(crate) fn nothing() -> Tally
 // Hands bytes to standard output. Where the write fails, a line on standard error says so.
 //
 // A helper within this crate, and no entry point: the caller shows that the tally stays below 2^64.
-pub(crate) fn hand(tally: Tally, bytes: &[u8]) -> Handed
+pub(crate) fn hand(rt: &(impl Print + Eprint), tally: Tally, bytes: &[u8]) -> Handed
     requires { tally.0 + length bytes.now < 2 ^ 64 }
     ensures { HandedIs (tally.0 + length bytes.now) result }
 {
-    if io::write_all(1, bytes) {
+    if rt.write_all(bytes).is_ok() {
         return Handed::All(Tally(tally.0 + bytes.len() as u64));
     }
-    io::write_all(2, b"remyline: the output could not be written\n");
+    let _ = eprintln!(rt; "remyline: the output could not be written");
     Handed::Failed
 }

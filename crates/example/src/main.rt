@@ -2,24 +2,26 @@
 // more ticks, reads the flow of sender 0 and prints it. `stdout` beside src/ is what it has to print.
 // Structs go in and come out by value: a tick takes a simulation and answers the one after it.
 #![tactic(auto)]
+
 ghost use Rattle.std.specs.Prelude.{◌≡◌};
 ghost use Rattle.remy.specs.Build.{build_of};
 ghost use Rattle.remy.specs.Run.{run_of};
 ghost use Rattle.reading.specs.Flow.{told_flow, flow_of};
 
+use draws::ContinuousDistribution;
 use flows::Rtt;
 use link::{Limit, LineValues};
 use meters::FlowRead;
 use quantities::float::to_bits;
-use draws::ContinuousDistribution;
 use reading::SenderFlow;
 use remy::{RemyNetwork, ReturnLine};
 use sender::Policy;
+use std::io;
 
-fn main() {
+fn main(rt: HostRuntime) -> io::Result<()> {
     match flow(network(), 1) {
-        SenderFlow::Of(read) => print(read),
-        SenderFlow::NoSender => write(b"no sender"),
+        SenderFlow::Of(read) => print(&rt, read),
+        SenderFlow::NoSender => println!(rt; "no sender"),
     }
 }
 
@@ -62,29 +64,23 @@ fn flow(network: RemyNetwork, seed: u64) -> SenderFlow
 }
 
 // The rate and the round-trip time, where there are any: 4 bit/s and 1 s here.
-fn print(read: FlowRead) {
+fn print(rt: &impl Print, read: FlowRead) -> io::Result<()> {
     match read {
         FlowRead::Properties(f) => {
-            double(b"rate=", f.throughput.0);
+            double(rt, "rate=", f.throughput.0)?;
             let rtt = f.rtt;
             match rtt {
-                Rtt::Known(t) => double(b"rtt=", t.0),
-                Rtt::NoPacketsAcked => write(b"no packet counted"),
+                Rtt::Known(t) => double(rt, "rtt=", t.0),
+                Rtt::NoPacketsAcked => println!(rt; "no packet counted"),
             }
         }
-        FlowRead::NeverActive => write(b"never on"),
-        FlowRead::Refused => write(b"refused"),
+        FlowRead::NeverActive => println!(rt; "never on"),
+        FlowRead::Refused => println!(rt; "refused"),
     }
 }
 
 // A double is printed by its 64 bits, as 16 hexadecimal digits.
-fn double(key: &[u8], x: f64) {
-    io::write_all(1, key);
-    io::print_hex(1, to_bits(x), 16);
-    io::write_all(1, b"\n");
-}
-
-fn write(line: &[u8]) {
-    io::write_all(1, line);
-    io::write_all(1, b"\n");
+fn double(rt: &impl Print, key: &str, x: f64) -> io::Result<()> {
+    let bits = to_bits(x);
+    println!(rt; "{key}{bits:016x}")
 }

@@ -4,10 +4,10 @@ ghost use Rattle.std.specs.Prelude.{◌<◌, ◌≤◌};
 
 use crate::print::slot;
 use crate::read::{double, moment, narrow, network_at, size, time_if_any};
+use draws::Rng;
 use link::{Line, Packet, Ring, Transit, Waiting};
 use meters::AverageFlowMeter;
 use quantities::{Information, TimeSpan};
-use draws::Rng;
 use remy::{Head, Next, Simulation};
 use script::{absent, number};
 use sender::{Enabled, LossySender, SenderState};

@@ -23,6 +23,7 @@
 // kind (0 always, 1 uniform) and two doubles; the policy's kind (0 held, 1 grown, 2 timed), two numbers
 // and the gap; 1 for a return line or 0 for none, and its delay, rate, loss and limit.
 #![tactic(auto)]
+
 ghost use Rattle.std.specs.Prelude.{◌≡◌, length};
 
 mod edit;
@@ -35,13 +36,17 @@ use print::moment;
 use quantities::Time;
 use read::{narrow, network_at};
 use remy::{Built, Simulation, TickRecord};
+use script::input::read_full;
 use script::{byte_at, next_line, number};
 use sink::{Sink, decimal, folded, hex, printed, put};
+use std::io;
+use std::io::Stdout;
 
-fn main() {
+fn main(rt: HostRuntime) -> io::Result<()> {
     let mut text = buffer();
-    let got = io::read_full(0, &mut text);
-    run(&text[..got]);
+    let got = read_full(&mut rt.stdin(), &mut text)?;
+    run(rt.stdout(), &text[..got]);
+    Ok(())
 }
 
 fn buffer() -> [u8; 524288]
@@ -51,7 +56,7 @@ fn buffer() -> [u8; 524288]
 }
 
 // The held state, and the one that was kept, from command to command.
-fn run(text: &[u8]) {
+fn run(to: Stdout, text: &[u8]) {
     let mut held = empty();
     let mut kept = held;
     let mut at = 0;
@@ -65,7 +70,7 @@ fn run(text: &[u8]) {
             held = kept;
             at = next;
         } else {
-            held = changed(letter, text, at, held);
+            held = changed(to, letter, text, at, held);
             at = next;
         }
     }
@@ -78,14 +83,14 @@ fn empty() -> Simulation {
 }
 
 // The held state after the command of a letter, whose line begins at a place.
-fn changed(letter: u8, text: &[u8], at: usize, st: Simulation) -> Simulation {
+fn changed(to: Stdout, letter: u8, text: &[u8], at: usize, st: Simulation) -> Simulation {
     match letter {
-        b'B' => built(text, at),
-        b'T' => ticked(st),
-        b'R' => ran(text, at, st),
-        b'U' => stepped(text, at, st),
+        b'B' => built(to, text, at),
+        b'T' => ticked(to, st),
+        b'R' => ran(to, text, at, st),
+        b'U' => stepped(to, text, at, st),
         b'A' | b'X' | b'F' | b'H' | b'D' => {
-            told(letter, text, at, st);
+            told(to, letter, text, at, st);
             st
         }
         _ => edit::edited(letter, text, at, st),
@@ -97,17 +102,18 @@ fn build_at(text: &[u8], at: usize) -> Built {
     builder::build(network, number(text, at, 36))
 }
 
-fn built(text: &[u8], at: usize) -> Simulation {
+fn built(to: Stdout, text: &[u8], at: usize) -> Simulation {
     let b = build_at(text, at);
-    done(decimal(put(printed(), b"build "), b.number as u64));
+    done(decimal(put(printed(to), b"build "), b.number as u64));
     b.simulation
 }
 
-fn ticked(st: Simulation) -> Simulation {
+fn ticked(to: Stdout, st: Simulation) -> Simulation {
     let t = simulation::tick(st);
     let after = t.simulation;
     let note = t.note;
     tick_line(
+        to,
         t.number,
         t.moved,
         whole::digest(st),
@@ -119,8 +125,8 @@ fn ticked(st: Simulation) -> Simulation {
 
 // A tick's number, whether it moved, whether the state has another digest, and the record of a tick that
 // did not move.
-fn tick_line(number: u32, moved: bool, before: u64, after: u64, note: TickRecord) {
-    let a = decimal(put(printed(), b"tick "), number as u64);
+fn tick_line(to: Stdout, number: u32, moved: bool, before: u64, after: u64, note: TickRecord) {
+    let a = decimal(put(printed(to), b"tick "), number as u64);
     let b = choose(a, moved, b" moved", b" still");
     let c = choose(b, before == after, b" same", b" changed");
     if moved {
@@ -137,15 +143,15 @@ fn choose(out: Sink, first: bool, a: &[u8], b: &[u8]) -> Sink {
     put(out, b)
 }
 
-fn ran(text: &[u8], at: usize, st: Simulation) -> Simulation {
+fn ran(to: Stdout, text: &[u8], at: usize, st: Simulation) -> Simulation {
     let r = simulation::run(st, narrow(text, at, 0));
     let after = r.simulation;
-    count_line(b"run ", r.done, r.number, reading::time(after));
+    count_line(to, b"run ", r.done, r.number, reading::time(after));
     after
 }
 
 // So many single ticks, or until one does not move.
-fn stepped(text: &[u8], at: usize, start: Simulation) -> Simulation {
+fn stepped(to: Stdout, text: &[u8], at: usize, start: Simulation) -> Simulation {
     let mut st = start;
     let mut moved = 0;
     let mut number = 0;
@@ -161,28 +167,28 @@ fn stepped(text: &[u8], at: usize, start: Simulation) -> Simulation {
             left = 0;
         }
     }
-    count_line(b"ticks ", moved, number, reading::time(st));
+    count_line(to, b"ticks ", moved, number, reading::time(st));
     st
 }
 
 // How many ticks moved, the last number, and the clock.
-fn count_line(word: &[u8], moved: u32, number: u32, clock: Time) {
-    let a = decimal(put(printed(), word), moved as u64);
+fn count_line(to: Stdout, word: &[u8], moved: u32, number: u32, clock: Time) {
+    let a = decimal(put(printed(to), word), moved as u64);
     let b = decimal(put(a, b" "), number as u64);
     done(moment(put(b, b" "), clock));
 }
 
 // The commands that change nothing.
-fn told(letter: u8, text: &[u8], at: usize, st: Simulation) {
+fn told(to: Stdout, letter: u8, text: &[u8], at: usize, st: Simulation) {
     match letter {
-        b'H' => network(printed(), text, at),
-        b'D' => summary(text, at),
-        b'A' => done(print::state(printed(), st)),
+        b'H' => network(printed(to), text, at),
+        b'D' => summary(to, text, at),
+        b'A' => done(print::state(printed(to), st)),
         b'X' => {
-            digest_line(printed(), st);
+            digest_line(printed(to), st);
         }
         b'F' => {
-            print::flow(printed(), st, narrow(text, at, 0));
+            print::flow(printed(to), st, narrow(text, at, 0));
         }
         _ => {}
     }
@@ -199,9 +205,9 @@ fn network(out: Sink, text: &[u8], at: usize) {
 }
 
 // The digest of its lines.
-fn summary(text: &[u8], at: usize) {
+fn summary(to: Stdout, text: &[u8], at: usize) {
     let end = lines(folded(), text, at);
-    done(hex(put(printed(), b"lines "), end.digest));
+    done(hex(put(printed(to), b"lines "), end.digest));
 }
 
 // The lines of the network at a place.
@@ -241,7 +247,7 @@ fn held(out: Sink, fresh: Simulation, ticks: u64) -> Sink {
 
 // A state's line, or in a digest the line `digest` and its digest.
 fn state_line(out: Sink, st: Simulation) -> Sink {
-    if out.shown {
+    if out.shown.is_some() {
         let a = print::state(out, st);
         return put(a, b"\n");
     }

@@ -2,11 +2,11 @@
 ghost use Rattle.std.specs.Prelude.{◌<◌, ◌≤◌};
 
 use crate::sink::{Sink, decimal, double, put};
+use draws::Rng;
 use flows::{FlowProperties, Rtt};
 use link::{Line, Packet, Ring, Transit, Waiting};
 use meters::{AverageFlowMeter, FlowRead};
 use quantities::{OptionTime, Time};
-use draws::Rng;
 use reading::SenderFlow;
 use remy::{Head, Mark, Name, Next, ReturnLine, Simulation, TickRecord};
 use sender::{LossySender, SenderState};

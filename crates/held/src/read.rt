@@ -1,10 +1,10 @@
 // What the fields of a line give: a field that is not there reads as 0.
 ghost use Rattle.std.specs.Prelude.{◌<◌};
 
+use draws::ContinuousDistribution;
 use link::{Limit, LineValues};
 use quantities::float::from_bits;
 use quantities::{OptionTime, Time, TimeSpan};
-use draws::ContinuousDistribution;
 use remy::{RemyNetwork, ReturnLine};
 use script::{absent, number};
 use sender::Policy;

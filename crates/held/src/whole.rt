@@ -2,8 +2,8 @@
 // toggler, meter and place of the queue, whether in use or not: of the text that they are printed as.
 use crate::print::{pair, state};
 use crate::sink::{Sink, decimal, double, folded, hex, put};
-use link::{Limit, Line, LineValues, Ring};
 use draws::ContinuousDistribution;
+use link::{Limit, Line, LineValues, Ring};
 use remy::{RemyNetwork, ReturnLine, Simulation};
 use sender::Policy;
 

@@ -7,8 +7,11 @@
 // It prints how many texts were given, how many were malformed, and a sum that each number of each
 // description has a part in. The file stdout beside src/ holds what the Rust oracle answers.
 #![tactic(auto)]
+
 use description::{Description, Distribution, Limit, Policy, ReadDescription};
+use script::input::read_full;
 use script::number;
+use std::io;
 
 // The greatest number of 64 bits.
 pub const MOST: u64 = 0xffff_ffff_ffff_ffff;
@@ -24,10 +27,10 @@ struct Tally {
     sum: u64,
 }
 
-fn main() {
-    let mut list = io::large_buffer();
-    let got = io::read_full(0, &mut list);
-    print(rounds(&list[..got]));
+fn main(rt: HostRuntime) -> io::Result<()> {
+    let mut list = [0u8; 65536];
+    let got = read_full(&mut rt.stdin(), &mut list)?;
+    print(&rt, rounds(&list[..got]))
 }
 
 // All rounds over a list.
@@ -45,14 +48,11 @@ fn rounds(list: &[u8]) -> Tally {
     tally
 }
 
-fn print(tally: Tally) {
-    io::write_all(1, b"given=");
-    io::print_decimal(1, tally.given);
-    io::write_all(1, b" malformed=");
-    io::print_decimal(1, tally.malformed);
-    io::write_all(1, b" sum=");
-    io::print_hex(1, tally.sum, 16);
-    io::write_all(1, b"\n");
+fn print(rt: &impl Print, tally: Tally) -> io::Result<()> {
+    let given = tally.given;
+    let malformed = tally.malformed;
+    let sum = tally.sum;
+    println!(rt; "given={given} malformed={malformed} sum={sum:016x}")
 }
 
 // Each text of a list, read once.

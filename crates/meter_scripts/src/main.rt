@@ -15,6 +15,7 @@
 // number and, at 0, the rate and the RTT. E, D and R, and M of a list of at most 64, are carried out
 // twice, by value and over what is lent; a line "differs" follows where the two are not the same.
 #![tactic(auto)]
+
 ghost use Rattle.std.specs.Prelude.{◌≡◌, ◌≤◌, take};
 ghost use Rattle.flows.specs.Average.{average_of, told_mean};
 
@@ -23,7 +24,9 @@ use lent::{average, record_lending, switch_lending};
 use meters::{AverageFlowMeter, FlowRead, Metered, Reception};
 use quantities::float::{from_bits, to_bits};
 use quantities::{Information, InformationRate, OptionTime, Time, TimeSpan};
+use script::input::read_full;
 use script::{absent, byte_at, next_line, number};
+use std::io;
 
 // The meter, the sums and the list that the commands work on. The list has the first 64 flows; a
 // count of 65 is more than these.
@@ -35,13 +38,13 @@ struct Bench {
     count: usize,
 }
 
-fn main() {
-    let mut text = io::large_buffer();
-    let got = io::read_full(0, &mut text);
-    run(&text[..got]);
+fn main(rt: HostRuntime) -> io::Result<()> {
+    let mut text = [0u8; 65536];
+    let got = read_full(&mut rt.stdin(), &mut text)?;
+    run(&rt, &text[..got])
 }
 
-fn run(text: &[u8]) {
+fn run(rt: &impl Print, text: &[u8]) -> io::Result<()> {
     let flow = FlowProperties {
         throughput: InformationRate(0.0),
         rtt: Rtt::NoPacketsAcked,
@@ -54,38 +57,46 @@ fn run(text: &[u8]) {
     };
     let mut at = 0;
     while at < text.len() {
-        bench = command(text, at, bench);
+        bench = command(rt, text, at, bench)?;
         at = next_line(text, at);
     }
+    Ok(())
 }
 
 // Carries out the command whose line begins at a place.
-fn command(text: &[u8], at: usize, bench: Bench) -> Bench {
+fn command(rt: &impl Print, text: &[u8], at: usize, bench: Bench) -> io::Result<Bench> {
     let meter = bench.meter;
     let letter = byte_at(text, at);
     match letter {
-        b'N' => with_meter(bench, AverageFlowMeter::new_disabled()),
-        b'H' => with_meter(bench, made_by_hand(text, at)),
-        b'E' => with_meter(bench, switched(b"E ", meter, true, time_at(text, at, 0))),
-        b'D' => with_meter(bench, switched(b"D ", meter, false, time_at(text, at, 0))),
+        b'N' => Ok(with_meter(bench, AverageFlowMeter::new_disabled())),
+        b'H' => Ok(with_meter(bench, made_by_hand(text, at))),
+        b'E' => {
+            let after = switched(rt, "E", meter, true, time_at(text, at, 0))?;
+            Ok(with_meter(bench, after))
+        }
+        b'D' => {
+            let after = switched(rt, "D", meter, false, time_at(text, at, 0))?;
+            Ok(with_meter(bench, after))
+        }
         b'R' => {
             let packet = Reception {
                 data: Information(number(text, at, 0)),
                 rtt: TimeSpan(double(text, at, 1)),
             };
-            with_meter(bench, recorded(meter, packet, time_at(text, at, 2)))
+            let after = recorded(rt, meter, packet, time_at(text, at, 2))?;
+            Ok(with_meter(bench, after))
         }
         b'Q' => {
-            read(meter, time_at(text, at, 0));
-            bench
+            read(rt, meter, time_at(text, at, 0))?;
+            Ok(bench)
         }
-        b'F' => with_flow(bench, flow_at(text, at)),
-        b'G' => repeated(bench, flow_at(text, at), number(text, at, 2)),
+        b'F' => Ok(with_flow(bench, flow_at(text, at))),
+        b'G' => Ok(repeated(bench, flow_at(text, at), number(text, at, 2))),
         b'M' => {
-            mean(bench);
-            emptied(bench)
+            mean(rt, bench)?;
+            Ok(emptied(bench))
         }
-        _ => bench,
+        _ => Ok(bench),
     }
 }
 
@@ -118,17 +129,30 @@ fn emptied(bench: Bench) -> Bench {
 }
 
 // Each prints the answer, and gives the meter after it.
-fn switched(letter: &[u8], meter: AverageFlowMeter, on: bool, time: Time) -> AverageFlowMeter {
+fn switched(
+    rt: &impl Print,
+    letter: &str,
+    meter: AverageFlowMeter,
+    on: bool,
+    time: Time,
+) -> io::Result<AverageFlowMeter> {
     told(
+        rt,
         letter,
         switch_lending(meter, on, time),
         meter.switch(on, time),
     )
 }
 
-fn recorded(meter: AverageFlowMeter, packet: Reception, time: Time) -> AverageFlowMeter {
+fn recorded(
+    rt: &impl Print,
+    meter: AverageFlowMeter,
+    packet: Reception,
+    time: Time,
+) -> io::Result<AverageFlowMeter> {
     told(
-        b"R ",
+        rt,
+        "R",
         record_lending(meter, packet, time),
         meter.packet_received(packet, time),
     )
@@ -179,45 +203,49 @@ fn rtt_at(text: &[u8], at: usize) -> Rtt {
 }
 
 // Prints the answer of a switch or a record over a lent meter, and gives the meter after it.
-fn told(letter: &[u8], answer: Metered, by_value: Metered) -> AverageFlowMeter {
+fn told(
+    rt: &impl Print,
+    letter: &str,
+    answer: Metered,
+    by_value: Metered,
+) -> io::Result<AverageFlowMeter> {
     let meter = answer.meter;
-    io::write_all(1, letter);
-    io::print_decimal(1, answer.number as u64);
-    print_double(meter.total_time.0);
+    let number = answer.number;
+    print!(rt; "{letter} {number}")?;
+    print_double(rt, meter.total_time.0)?;
     let start = meter.current_start;
     match start {
-        OptionTime::None => print_absent(),
-        OptionTime::Some(time) => print_double(time.0.0),
+        OptionTime::None => print_absent(rt)?,
+        OptionTime::Some(time) => print_double(rt, time.0.0)?,
     }
-    print_word(meter.total.0);
-    print_word(meter.records as u64);
-    print_double(meter.rtt_sum.0);
-    end_line();
+    print_word(rt, meter.total.0)?;
+    print_word(rt, meter.records as u64)?;
+    print_double(rt, meter.rtt_sum.0)?;
+    end_line(rt)?;
     let same = answer.number == by_value.number && same_meter(meter, by_value.meter);
-    compared(same);
-    meter
+    compared(rt, same)?;
+    Ok(meter)
 }
 
-fn read(meter: AverageFlowMeter, time: Time) {
-    io::write_all(1, b"Q ");
+fn read(rt: &impl Print, meter: AverageFlowMeter, time: Time) -> io::Result<()> {
+    print!(rt; "Q ")?;
     match meter.average_properties(time) {
-        FlowRead::Properties(flow) => print_flow(flow),
-        FlowRead::NeverActive => print_refusal(16),
-        FlowRead::Refused => print_refusal(18),
+        FlowRead::Properties(flow) => print_flow(rt, flow),
+        FlowRead::NeverActive => print_refusal(rt, 16),
+        FlowRead::Refused => print_refusal(rt, 18),
     }
 }
 
-fn mean(bench: Bench) {
+fn mean(rt: &impl Print, bench: Bench) -> io::Result<()> {
     let by_value = bench.sum.mean();
     let list = bench.list;
     let count = bench.count;
     if count > 64 {
-        print_mean(by_value);
-        return;
+        return print_mean(rt, by_value);
     }
     let answer = average_first(list, count);
-    print_mean(answer);
-    compared(same_mean(answer, by_value));
+    print_mean(rt, answer)?;
+    compared(rt, same_mean(answer, by_value))
 }
 
 // The mean of the first so many of 64 flow records: these are lent.
@@ -228,18 +256,19 @@ fn average_first(list: [FlowProperties; 64], count: usize) -> Mean
     average(&list[..count])
 }
 
-fn print_mean(mean: Mean) {
-    io::write_all(1, b"M ");
+fn print_mean(rt: &impl Print, mean: Mean) -> io::Result<()> {
+    print!(rt; "M ")?;
     match mean {
-        Mean::Average(flow) => print_flow(flow),
-        Mean::Refused => print_refusal(17),
+        Mean::Average(flow) => print_flow(rt, flow),
+        Mean::Refused => print_refusal(rt, 17),
     }
 }
 
-fn compared(same: bool) {
+fn compared(rt: &impl Print, same: bool) -> io::Result<()> {
     if !same {
-        io::write_all(1, b"differs\n");
+        return println!(rt; "differs");
     }
+    Ok(())
 }
 
 fn same_meter(a: AverageFlowMeter, b: AverageFlowMeter) -> bool {
@@ -304,37 +333,36 @@ fn same_double(x: f64, y: f64) -> bool {
     to_bits(x) == to_bits(y)
 }
 
-fn print_flow(flow: FlowProperties) {
-    io::print_decimal(1, 0);
-    print_double(flow.throughput.0);
+fn print_flow(rt: &impl Print, flow: FlowProperties) -> io::Result<()> {
+    print!(rt; "0")?;
+    print_double(rt, flow.throughput.0)?;
     let rtt = flow.rtt;
     match rtt {
-        Rtt::NoPacketsAcked => print_absent(),
-        Rtt::Known(span) => print_double(span.0),
+        Rtt::NoPacketsAcked => print_absent(rt)?,
+        Rtt::Known(span) => print_double(rt, span.0)?,
     }
-    end_line();
+    end_line(rt)
 }
 
-fn print_refusal(number: u64) {
-    io::print_decimal(1, number);
-    end_line();
+fn print_refusal(rt: &impl Print, number: u64) -> io::Result<()> {
+    print!(rt; "{number}")?;
+    end_line(rt)
 }
 
-fn print_double(x: f64) {
-    print_word(to_bits(x));
+fn print_double(rt: &impl Print, x: f64) -> io::Result<()> {
+    print_word(rt, to_bits(x))
 }
 
-fn print_word(n: u64) {
-    io::write_all(1, b" ");
-    io::print_hex(1, n, 16);
+fn print_word(rt: &impl Print, n: u64) -> io::Result<()> {
+    print!(rt; " {n:016x}")
 }
 
-fn print_absent() {
-    io::write_all(1, b" ----------------");
+fn print_absent(rt: &impl Print) -> io::Result<()> {
+    print!(rt; " ----------------")
 }
 
-fn end_line() {
-    io::write_all(1, b"\n");
+fn end_line(rt: &impl Print) -> io::Result<()> {
+    println!(rt)
 }
 
 fn time_at(text: &[u8], at: usize, k: usize) -> Time {

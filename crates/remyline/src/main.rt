@@ -1,5 +1,6 @@
 // The text program (document 01, "The text program").
 #![tactic(auto)]
-fn main() {
-    console::run();
+
+fn main(rt: HostRuntime) {
+    console::run(&rt);
 }

@@ -1,5 +1,6 @@
 // The text program, given the longest description and one byte after it (15).
 #![tactic(auto)]
-fn main() {
-    console::run();
+
+fn main(rt: HostRuntime) {
+    console::run(&rt);
 }

@@ -2,22 +2,24 @@
 // tick, the end, and the flows. A return line has no text, so the network is built here: it is the one of
 // docs/RETURN-LINE.md, and docs/draw.py draws what is printed.
 #![tactic(auto)]
-ghost use Rattle.std.specs.Prelude.{◌≡◌};
+
+ghost use Rattle.std.specs.Prelude.{◌≡◌, ◌≤◌};
 ghost use Rattle.remy.specs.Build.{build_of};
 ghost use Rattle.lines.specs.Lines.{run_lines};
 ghost use Rattle.report.specs.Report.{left_of};
 
-use link::{Limit, LineValues};
 use draws::ContinuousDistribution;
+use link::{Limit, LineValues};
 use remy::{RemyNetwork, ReturnLine};
 use report::{Report, Stage};
 use sender::Policy;
+use std::io;
 
-fn main() {
-    let mut out = io::large_buffer();
+fn main(rt: HostRuntime) -> io::Result<()> {
+    let mut out = [0u8; 65536];
     let filled = filling::fill(&mut out, begun(network(), 1, 14));
-    let n = io::count(counted(filled.at), &out);
-    io::write_all(1, &out[..n]);
+    let n = counted(filled.at);
+    rt.write_all(&out[..n])
 }
 
 // Two senders with packets of 8 and of 4 bits, off for 1 s, then on for 100 s, that may have 2 packets
@@ -69,6 +71,8 @@ fn begun(network: RemyNetwork, seed: u64, ticks: u32) -> Report
 }
 
 // A position in the buffer, as a count of its bytes.
-fn counted(at: usize) -> isize {
-    if at < 65536 { at as isize } else { 65536 }
+fn counted(at: usize) -> usize
+    ensures { result ≤ 65536 }
+{
+    if at < 65536 { at } else { 65536 }
 }

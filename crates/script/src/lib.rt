@@ -1,8 +1,11 @@
 // Reads the lines of a script: a letter, then fields of 16 hexadecimal digits, each after a space. A
 // byte that is no digit, or that is not there, counts as the digit 0.
 #![tactic(auto)]
+
 ghost use Rattle.std.specs.Prelude.{◌<◌, ◌≡◌};
 ghost use Rattle.script.specs.Script.{byte_at, digit_of, field_at, absent_at, number_at, next_line};
+
+pub mod input;
 
 // The byte at a place, and 0 past the end.
 pub fn byte_at(text: &[u8], at: usize) -> u8

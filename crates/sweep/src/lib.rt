@@ -1,6 +1,7 @@
 // The run of a text for programs in other languages: bytes in, bytes out, and the answer is a number.
-// `sweeps/remyline.h` is its header.
+// The crate `sweep_c` gives these functions to C.
 #![tactic(auto)]
+
 ghost use Rattle.std.specs.Prelude.{◌≡◌};
 ghost use Rattle.report.specs.Report.{ForText, report_of};
 ghost use Rattle.filling.specs.Filling.{end_of};
@@ -20,8 +21,7 @@ fn counted(put: Put) -> usize
 
 // All that is printed for a text, put into out: the count of its bytes, or 0 where out is too small.
 // 128 bytes for each tick and 2,176 more are enough, 8,390,784 for every text.
-#[unsafe(no_mangle)]
-pub extern "C" fn remyline_print(text: &[u8], out: &mut [u8]) -> usize
+pub fn remyline_print(text: &[u8], out: &mut [u8]) -> usize
     ensures { ForText text.now (λ d. CountPut (report_of d) out.old result out.new × Enough (enough_for d) out.old result) × Enough enough_for_each out.old result }
 {
     counted(filling::print_run(text, out))
@@ -29,8 +29,7 @@ pub extern "C" fn remyline_print(text: &[u8], out: &mut [u8]) -> usize
 
 // Its last lines, without the records, put into out: the count of their bytes, or 0 where out is too
 // small. 2,176 bytes are enough for every text.
-#[unsafe(no_mangle)]
-pub extern "C" fn remyline_flows(text: &[u8], out: &mut [u8]) -> usize
+pub fn remyline_flows(text: &[u8], out: &mut [u8]) -> usize
     ensures { ForText text.now (λ d. CountPut (end_of (report_of d)) out.old result out.new) × Enough enough_for_flows out.old result }
 {
     counted(filling::print_flows(text, out))

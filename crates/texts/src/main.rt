@@ -3,38 +3,42 @@
 //
 // A text in the list: its length as five decimal digits and LF, then its bytes.
 #![tactic(auto)]
+
 ghost use Rattle.std.specs.Prelude.{◌≤◌};
 
 use printer::Put;
+use script::input::read_full;
+use std::io;
 
-fn main() {
+fn main(rt: HostRuntime) -> io::Result<()> {
     let mut turns: u32 = 100000;
     while turns > 0 {
-        if next_text() {
+        if next_text(&rt)? {
             turns -= 1;
         } else {
             turns = 0;
         }
     }
+    Ok(())
 }
 
 // Answers one text, if one is left.
-fn next_text() -> bool {
+fn next_text(rt: &HostRuntime) -> io::Result<bool> {
     let mut head = [0u8; 6];
-    let got = io::read_full(0, &mut head);
+    let got = read_full(&mut rt.stdin(), &mut head)?;
     if got < 6 {
-        return false;
+        return Ok(false);
     }
-    let mut text = io::large_buffer();
-    let n = io::count(counted(number(head)), &text);
-    read(&mut text[..n]);
-    true
+    let mut text = [0u8; 65536];
+    let n = counted(number(head));
+    read(rt, &mut text[..n])?;
+    Ok(true)
 }
 
 // Reads a text of a known length, and answers it.
-fn read(text: &mut [u8]) {
-    let got = io::read_full(0, text);
-    answer(&text[..got]);
+fn read(rt: &HostRuntime, text: &mut [u8]) -> io::Result<()> {
+    let got = read_full(&mut rt.stdin(), text)?;
+    answer(rt, &text[..got])
 }
 
 // The number that the first five digits are.
@@ -55,21 +59,21 @@ fn digit(b: u8) -> usize
     }
 }
 
-fn answer(text: &[u8]) {
-    let mut out = io::large_buffer();
+fn answer(rt: &impl Print, text: &[u8]) -> io::Result<()> {
+    let mut out = [0u8; 65536];
     match filling::print_run(text, &mut out) {
         Put::At(at) => {
-            let n = io::count(counted(at), &out);
-            io::write_all(1, &out[..n]);
-            io::write_all(1, b"\n");
+            let n = counted(at);
+            rt.write_all(&out[..n])?;
+            println!(rt)
         }
-        Put::Full => {
-            io::write_all(1, b"too long\n\n");
-        }
+        Put::Full => println!(rt; "too long\n"),
     }
 }
 
 // A position in the buffer, as a count of its bytes.
-fn counted(at: usize) -> isize {
-    if at < 65536 { at as isize } else { 65536 }
+fn counted(at: usize) -> usize
+    ensures { result ≤ 65536 }
+{
+    if at < 65536 { at } else { 65536 }
 }

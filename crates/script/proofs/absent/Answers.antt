@@ -1,5 +1,4 @@
 -- The byte at the field's place is compared. Assumes nothing.
-use borrow.Author.Rules.{rules}
 use Rattle.script.specs.Script.{absent_at}
 use Rattle.script.proofs.absent.Goals as goal
 

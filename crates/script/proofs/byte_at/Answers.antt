@@ -1,6 +1,5 @@
 -- Past the end a list has its default. Assumes nothing.
 use mathlib.Core.Path.{sym}
-use borrow.Author.Rules.{rules}
 use lib.ListN.{get_or-eq_default}
 use Rattle.script.proofs.byte_at.Goals as goal
 

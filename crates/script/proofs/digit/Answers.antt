@@ -1,6 +1,5 @@
 -- Each test leaves a range of bytes, and is that of `digit_of`. Assumes nothing.
 use native.Mathlib.Omega.{arith}
-use borrow.Author.Rules.{rules}
 use borrow.Author.Tests.{lt-ltb, le-ltb}
 use Rattle.script.specs.Script.{digit_of}
 use Rattle.script.proofs.digit.Goals as goal

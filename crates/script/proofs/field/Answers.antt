@@ -1,6 +1,5 @@
 -- Each test is that of `field_at`. Assumes nothing.
 use native.Mathlib.Omega.{arith}
-use borrow.Author.Rules.{rules}
 use borrow.Author.Tests.{lt-ltb, le-ltb}
 use Rattle.script.specs.Script.{field_at}
 use Rattle.script.proofs.field.Goals as goal

@@ -1,9 +1,6 @@
 -- The line that goes on at i ends where the line at the first place ends. Assumes nothing.
-use mathlib.Core.Path.{◌≡◌, refl, ◌∙◌}
-use Prim.Native.Nat.{◌-◌}
+use mathlib.Core.Path.{refl, ◌∙◌}
 use native.Mathlib.Omega.{arith}
-use lib.ListN.{length}
-use Rattle.script.specs.Script.{next_line}
 use Rattle.script.proofs.Lines.{line-ends, line_goes, line-none}
 use Rattle.script.proofs.next_line.Goals as goal
 

@@ -1,10 +1,8 @@
 -- The line that goes on at i ends where the line at the first place ends. Assumes nothing.
-use mathlib.Core.Path.{◌≡◌, refl, ◌∙◌}
+use mathlib.Core.Path.{◌≡◌}
 use Prim.Native.Nat.{◌-◌}
-use native.Mathlib.Omega.{arith}
 use lib.ListN.{length}
 use Rattle.script.specs.Script.{next_line}
-use Rattle.script.proofs.Lines.{line-ends, line_goes, line-none}
 use Rattle.script.proofs.next_line.Given as goal
 
 abbrev pub invariant-loop-i : goal.invariant-loop-i

@@ -1,10 +1,7 @@
 -- After i digits the number is their value, below 16 to the power i. Assumes nothing.
-use mathlib.Core.Path.{◌≡◌, refl, ◌∙◌}
+use mathlib.Core.Path.{◌≡◌}
 use Prim.Native.Nat.{◌-◌, ◌^◌, ◌≤◌, ◌<◌}
-use native.Mathlib.Numerals.{add-one}
-use native.Mathlib.Omega.{arith}
-use Rattle.script.specs.Script.{value_of, number_at}
-use Rattle.script.proofs.Digits.{digit_more, digit_fits}
+use Rattle.script.specs.Script.{value_of}
 use Rattle.script.proofs.number.Given as goal
 
 abbrev pub invariant-loop-i : goal.invariant-loop-i

@@ -1,0 +1,24 @@
+// The functions of the crate `sweep` for C. `sweeps/remyline.h` is the header.
+#![tactic(auto)]
+
+ghost use Rattle.report.specs.Report.{ForText, report_of};
+ghost use Rattle.filling.specs.Filling.{end_of};
+ghost use Rattle.sweep.specs.Sweep.{CountPut, Enough, enough_for, enough_for_each, enough_for_flows};
+
+// All that is printed for a text, put into out: the count of its bytes, or 0 where out is too small.
+// 128 bytes for each tick and 2,176 more are enough, 8,390,784 for every text.
+#[unsafe(no_mangle)]
+pub extern "C" fn remyline_print(text: &[u8], out: &mut [u8]) -> usize
+    ensures { ForText text.now (λ d. CountPut (report_of d) out.old result out.new × Enough (enough_for d) out.old result) × Enough enough_for_each out.old result }
+{
+    sweep::remyline_print(text, out)
+}
+
+// Its last lines, without the records, put into out: the count of their bytes, or 0 where out is too
+// small. 2,176 bytes are enough for every text.
+#[unsafe(no_mangle)]
+pub extern "C" fn remyline_flows(text: &[u8], out: &mut [u8]) -> usize
+    ensures { ForText text.now (λ d. CountPut (end_of (report_of d)) out.old result out.new) × Enough enough_for_flows out.old result }
+{
+    sweep::remyline_flows(text, out)
+}
