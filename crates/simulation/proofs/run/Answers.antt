@@ -11,27 +11,19 @@ use Rattle.steady.proofs.Clock.{never_back}
 use Rattle.advance.proofs.Types.{typed}
 use Rattle.simulation.proofs.Cases.{run_is}
 use Rattle.simulation.proofs.Reach.{run_account}
-use Rattle.simulation.proofs.run.Statement.{statement}
-use Rattle.simulation.proofs.run.Tie as tie
+use Rattle.simulation.proofs.run.Goals as goal
 
-advance-requires : tie.Need-advance-requires
-advance-requires c κs = search rules
-
-returns : tie.Need-returns
+pub returns : goal.returns
 returns c =
-    let a = c.before.advance in
-    let start = c.before.before in
-    let s = start.args.simulation in
-    let n = start.args.n in
+    let a = c.advance-a in
+    let s = c.args.simulation in
+    let n = c.args.n in
     let is = run_is n s a.result a.ensures in
     let steps = subst (TickByTick n s) (sym is) (tick_by_tick n s) in (
       is,
       run_account n s _ steps,
       subst (λ (r : Ran). TickNumber r.number) (sym is) (run_number n s),
-      never_back s (typed s _ start.well-formed.0),
+      never_back s (typed s _ c.well_formed.0),
       steps,
       subst (JoinsOn n s) (sym is) (joins-on n s),
     )
-
-pub run_spec : {M : Type 1} → statement M
-run_spec = tie.close (tie.spec advance-requires returns)

@@ -11,29 +11,18 @@ use Rattle.steady.proofs.Clock.{never_back}
 use Rattle.advance.proofs.Types.{typed}
 use Rattle.simulation.proofs.Cases.{one-tick}
 use Rattle.simulation.proofs.Reach.{tick_account}
-use Rattle.simulation.proofs.tick.Statement.{statement}
-use Rattle.simulation.proofs.tick.Tie as tie
+use Rattle.simulation.proofs.tick.Goals as goal
 
-advance-requires : tie.Need-advance-requires
-advance-requires c κs = search rules
-
-element-copy-out-first : tie.Need-element-copy-out-first
-element-copy-out-first c = search rules
-
-returns : tie.Need-returns
+pub returns : goal.returns
 returns c =
-    let a = c.before.before.before.advance in
-    let start = c.before.before.before.before in
-    let s = start.args.simulation in
+    let a = c.advance-a in
+    let s = c.args.simulation in
     let is = one-tick _ s a.result a.ensures in
     let ran = one-run s ∙ ap as_run (sym is) in (
       is,
       tick_account s _ is,
       subst (λ (t : Ticked). TickNumber t.number) (sym is) (tick_number s),
-      never_back s (typed s _ start.well-formed.0),
+      never_back s (typed s _ c.well_formed.0),
       ran,
       subst (JoinsOn 1 s) ran (joins-on 1 s),
     )
-
-pub tick-spec : {M : Type 1} → statement M
-tick-spec = tie.close (tie.spec advance-requires element-copy-out-first returns)

@@ -12,22 +12,14 @@ use Rattle.advance.proofs.Types.{typed}
 use Rattle.remy.proofs.Records.{records_ran}
 use Rattle.simulation.proofs.Cases.{records_is}
 use Rattle.simulation.proofs.Reach.{records_account}
-use Rattle.simulation.proofs.records.Statement.{statement}
-use Rattle.simulation.proofs.records.Tie as tie
+use Rattle.simulation.proofs.records.Goals as goal
 
-batch-of-requires : tie.Need-batch-of-requires
-batch-of-requires c κs = search rules
-
-advance-requires : tie.Need-advance-requires
-advance-requires c κs = search rules
-
-returns : tie.Need-returns
+pub returns : goal.returns
 returns c =
-    let a = c.advance in
-    let most = c.before.batch-of in
-    let start = c.before.before in
-    let s = start.args.simulation in
-    let n = start.args.n in
+    let a = c.advance-a in
+    let most = c.batch_of-most in
+    let s = c.args.simulation in
+    let n = c.args.n in
     let b = batch_of n in
     let is = records_is n most.result s a.result most.ensures a.ensures in
     let ran = ap ran_of is ∙ records_ran n s in
@@ -35,10 +27,7 @@ returns c =
       is,
       records_account n s _ is steps,
       subst (λ (r : Ran). TickNumber r.number) (sym ran) (run_number b s),
-      never_back s (typed s _ start.well-formed.0),
+      never_back s (typed s _ c.well_formed.0),
       steps,
       subst (JoinsOn b s) (sym ran) (joins-on b s),
     )
-
-pub records-spec : {M : Type 1} → statement M
-records-spec = tie.close (tie.spec batch-of-requires advance-requires returns)
