@@ -1,0 +1,51 @@
+-- The invariant: what is so from here is so from the start. The measure is how many records are left. Assumes nothing.
+use Prim.Native.Nat.{◌-◌, ◌≤◌}
+use mathlib.Core.List.{map}
+use mathlib.Core.Path.{◌≡◌, refl, ◌∙◌}
+use native.Mathlib.Omega.{arith}
+use borrow.Author.Rules.{rules}
+use lib.ListN.{length, take, drop}
+use Rattle.filling.specs.Filling.{Puts, batch_by, noted_line}
+use Rattle.filling.proofs.Putting.{further, From}
+use Rattle.filling.proofs.Running.{note_goes, note_full, notes_end, notes_all}
+use Rattle.filling.proofs.put_batch.Goals as goal
+use Rattle.filling.proofs.put_batch.Goals.{Start}
+
+-- there are as many places as records
+few : (a : Start) → a.args.done ≤ length a.args.records
+few a = omega (arith, a.well_formed.1.1.0.1.0.1, a.requires)
+
+pub loop-i-init : goal.loop-i-init
+loop-i-init c = (notes_all c.args.done c.args.records _ _, omega arith, refl)
+
+pub offset_bounds-records-k : goal.offset_bounds-records-k
+offset_bounds-records-k c = omega (arith, c.requires)
+
+pub bounds-records-k : goal.bounds-records-k
+bounds-records-k c = omega (arith, c.requires)
+
+pub loop-i-smaller : goal.loop-i-smaller
+loop-i-smaller c = omega arith
+
+pub loop-i-preserved : goal.loop-i-preserved
+loop-i-preserved c =
+    let w = c.record_bytes in
+    let l = c.loop-i in
+    (λ r after v. l.invariant.0 r after (note_goes c.args.done c.args.records l.i (few (goal.at.loop-i-preserved c).Start) _ _ _ _ _ w.ensures c.loop-i-test.true _ c.in-At.is r after v), omega (arith, c.loop-i-test.true), w.auto.out ∙ l.invariant.2)
+
+pub shape_of-out-in-Full : goal.shape_of-out-in-Full
+shape_of-out-in-Full c = c.record_bytes.auto.out ∙ c.loop-i.invariant.2
+
+pub returns-in-Full : goal.returns-in-Full
+returns-in-Full c =
+    let w = c.record_bytes in
+    let l = c.loop-i in
+    l.invariant.0 _ _ (note_full c.args.done c.args.records l.i (few (goal.at.returns-in-Full c).Start) _ _ _ _ _ w.ensures c.loop-i-test.true c.in-Full.is)
+
+pub shape_of-out : goal.shape_of-out
+shape_of-out c = c.loop-i.invariant.2
+
+pub returns : goal.returns
+returns c =
+    let l = c.loop-i in
+    l.invariant.0 _ _ (notes_end c.args.done c.args.records l.i (few (goal.at.returns c).Start) (omega (arith, c.loop-i-test.false)) _ _)

@@ -1,0 +1,62 @@
+-- The invariant: what is so from here is so from the start. The measure is how many flows are left. Assumes nothing.
+use Prim.Native.Nat.{◌-◌, ◌<◌}
+use mathlib.Core.Path.{◌≡◌, refl, ◌∙◌}
+use native.Mathlib.Omega.{arith}
+use lib.ListN.{length}
+use borrow.Author.Rules.{rules}
+use Rattle.lines.specs.Lines.{flow_count, flows_from}
+use Rattle.report.specs.declared.run.Stage.TheVariants as Stage
+use Rattle.filling.specs.Filling.{rest_at, filled_by}
+use Rattle.filling.proofs.Putting.{From}
+use Rattle.filling.proofs.Ending.{flow-count-le, flow_goes, flow-full, flows_done}
+use Rattle.filling.proofs.put_flows.Goals as goal
+use Rattle.filling.proofs.put_flows.Goals.{In-loop-i}
+
+pub loop-i-init : goal.loop-i-init
+loop-i-init c = (λ r after w. w, refl)
+
+-- the flow is printed, and there are at most 16
+module _ (p : In-loop-i) where
+  below : p.loop-i.i < flow_count p.args.simulation
+  below = omega (arith, p.loop-i-test.true, p.flow_count-n.ensures)
+
+  low : p.loop-i.i < 16
+  low = omega (arith, below, flow-count-le p.args.simulation)
+
+pub offset_bounds-simulation-k : goal.offset_bounds-simulation-k
+offset_bounds-simulation-k c = omega (arith, low c)
+
+pub bounds-simulation-k : goal.bounds-simulation-k
+bounds-simulation-k c = omega (arith, low c)
+
+pub offset_bounds-simulation-k-in-loop-i : goal.offset_bounds-simulation-k-in-loop-i
+offset_bounds-simulation-k-in-loop-i c = omega (arith, low (goal.at.offset_bounds-simulation-k-in-loop-i c).In-loop-i)
+
+pub bounds-simulation-k-in-loop-i : goal.bounds-simulation-k-in-loop-i
+bounds-simulation-k-in-loop-i c = omega (arith, low (goal.at.bounds-simulation-k-in-loop-i c).In-loop-i)
+
+pub loop-i-smaller : goal.loop-i-smaller
+loop-i-smaller c = omega arith
+
+pub loop-i-preserved : goal.loop-i-preserved
+loop-i-preserved c =
+    let w = c.flow_bytes in
+    let l = c.loop-i in
+    (λ r after v. l.invariant.0 r after (flow_goes _ l.i _ _ _ c.time-clock.ensures _ _ w.ensures (below (goal.at.loop-i-preserved c).In-loop-i) _ c.in-At.is r after v), w.auto.out ∙ l.invariant.1)
+
+pub shape_of-out-in-Full : goal.shape_of-out-in-Full
+shape_of-out-in-Full c = c.flow_bytes.auto.out ∙ c.loop-i.invariant.1
+
+pub returns-in-Full : goal.returns-in-Full
+returns-in-Full c =
+    let w = c.flow_bytes in
+    let l = c.loop-i in
+    rw c.answer.ensures (l.invariant.0 _ _ (flow-full _ l.i _ _ _ c.time-clock.ensures _ _ w.ensures (below (goal.at.returns-in-Full c).In-loop-i) c.in-Full.is))
+
+pub shape_of-out : goal.shape_of-out
+shape_of-out c = c.loop-i.invariant.1
+
+pub returns : goal.returns
+returns c =
+    let l = c.loop-i in
+    rw c.answer-2.ensures (l.invariant.0 _ _ (flows_done _ l.i _ _ (omega (arith, c.loop-i-test.false, c.flow_count-n.ensures))))

@@ -1,0 +1,20 @@
+-- The invariant: what is so from here is so from the start. The measure is how many flows are left. Assumes nothing.
+use Prim.Native.Nat.{◌-◌, ◌<◌}
+use mathlib.Core.Path.{◌≡◌, refl, ◌∙◌}
+use native.Mathlib.Omega.{arith}
+use lib.ListN.{length}
+use borrow.Author.Rules.{rules}
+use Rattle.lines.specs.Lines.{flow_count, flows_from}
+use Rattle.report.specs.declared.run.Stage.TheVariants as Stage
+use Rattle.filling.specs.Filling.{rest_at, filled_by}
+use Rattle.filling.proofs.Putting.{From}
+use Rattle.filling.proofs.Ending.{flow-count-le, flow_goes, flow-full, flows_done}
+use Rattle.filling.proofs.put_flows.Given as goal
+
+abbrev pub invariant-loop-i : goal.invariant-loop-i
+invariant-loop-i l =
+    From (filled_by (rest_at l.simulation (Stage.Flows l.first))) (flows_from l.simulation l.first) l.initial.out l.at (filled_by (rest_at l.simulation (Stage.Flows l.i))) (flows_from l.simulation l.i) l.out l.next
+    × (length l.out ≡ length l.initial.out)
+
+abbrev pub decreases-loop-i : goal.decreases-loop-i
+decreases-loop-i l = l.n - l.i
