@@ -2,6 +2,7 @@
 // rings that hold them, and what a line does. Functions on small structs; whoever owns the state keeps
 // the arrays and calls them.
 #![tactic(auto)]
+
 pub mod link;
 pub mod packet;
 pub mod ring;

@@ -3,9 +3,9 @@ ghost use Rattle.link.specs.Link.{admits, receive_of, next_transmit, next_delive
 
 use crate::packet::{Packet, Transit, Waiting};
 use crate::ring::Ring;
+use draws::Rng;
 use quantities::time::{earliest_opt, latest};
 use quantities::{Information, InformationRate, OptionTime, Time, TimeSpan};
-use draws::Rng;
 
 // The most bits that may wait, if there is a limit.
 #[derive(Clone, Copy)]

@@ -3,7 +3,7 @@
 -- Assumes nothing.
 use Rattle.std.proofs.Common.{◌≡◌, ℕ, suc, ◌+◌, ◌-◌, ◌*◌, ◌^◌, ◌<◌, ◌≤◌, true, false, T, pos, negsuc, sym, refl, ap, ◌∙◌, subst, le_of_eq, lt_of_lt_of_le, le-add_right, le_of_lt, add-le-add, mul-le-mul_right, mul_assoc, suc-mul, mul_comm, add-mul, mul-le-mul, one-mul, zero-mul, mul-one, mul_left_comm, sub-le, arith, lit<, lit≤, pow_mono, pow-add, shl_lt}
 use native.Mathlib.Nat
-use lib.Ieee.{Float, fin, Format, binary64, round, add, sub, mul, div, lt, le, eq, of_int, fits}
+use lib.Ieee.{Float, fin, Format, binary64, round, add, sub, mul, div, le, eq, of_int, fits}
 use lib.Ieee.Fits.{and_i, and_l, and_r}
 use lib.Ieee.Back.{round_whole}
 use lib.Ieee.Scale.{finite}

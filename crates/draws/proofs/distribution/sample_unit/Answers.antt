@@ -1,6 +1,5 @@
 -- The output's sample, and the generator after it. Assumes nothing.
 use Rattle.draws.specs.Draws.{unit_of}
-use Rattle.std.proofs.Common.{rules}
 use Rattle.draws.proofs.distribution.sample_unit.Goals as goal
 
 pub returns : goal.returns

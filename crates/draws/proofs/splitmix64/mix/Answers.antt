@@ -1,6 +1,5 @@
 -- The callees' products, put together. Assumes nothing.
 use Rattle.draws.specs.SplitMix64.{mixed}
-use Rattle.std.proofs.Common.{rules}
 use Rattle.draws.proofs.splitmix64.mix.Goals as goal
 
 pub returns : goal.returns

@@ -1,7 +1,6 @@
 -- Each arm rewrites by its test. Assumes nothing.
 use borrow.Author.Tests.{eq-eqb, ne_eqb}
 use Rattle.flows.specs.Sums.{average_rtt}
-use borrow.Author.Rules.{rules}
 use Rattle.flows.proofs.sums.average_rtt.Goals as goal
 
 pub returns-then-count-eq0 : goal.returns-then-count-eq0

@@ -5,7 +5,6 @@ use Rattle.quantities.specs.Doubles.{zero_f, power, in_range}
 use Rattle.quantities.proofs.Tested.{passed, failed}
 use Rattle.flows.specs.Average.{member_fit}
 use lib.Ieee.{of_bits}
-use borrow.Author.Rules.{rules}
 use Rattle.flows.proofs.sums.member_fit.Goals as goal
 
 pub returns-then-not-in_range : goal.returns-then-not-in_range

@@ -1,7 +1,6 @@
 -- The limit is compared without a sum that could wrap. Assumes nothing.
 use Rattle.link.proofs.Limits.{below-limit, above_limit}
 use Rattle.link.specs.Link.{admits}
-use borrow.Author.Rules.{rules}
 use Rattle.link.proofs.link.admits_bits.Goals as goal
 
 pub returns-then-bits-most : goal.returns-then-bits-most

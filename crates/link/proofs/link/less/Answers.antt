@@ -3,7 +3,6 @@ use mathlib.Core.Path.{◌≡◌, ap}
 use Prim.Native.Nat.{◌-◌}
 use native.Mathlib.Omega.{arith}
 use Rattle.quantities.specs.Units.{amount_of}
-use borrow.Author.Rules.{rules}
 use Rattle.link.proofs.link.less.Goals as goal
 
 pub returns-then-a-b : goal.returns-then-a-b

@@ -1,6 +1,5 @@
 -- The callees' results, put together. Assumes nothing.
 use Rattle.link.specs.Link.{next_tick}
-use borrow.Author.Rules.{rules}
 use Rattle.link.proofs.link.next_tick.Goals as goal
 
 pub returns : goal.returns

@@ -1,7 +1,6 @@
 -- Each return rewrites by its test. Assumes nothing.
 use borrow.Author.Tests.{eq-eqb, ne_eqb}
 use Rattle.link.specs.Link.{next_transmit}
-use borrow.Author.Rules.{rules}
 use Rattle.link.proofs.link.next_transmit.Goals as goal
 
 pub returns-then-waiting-eq0 : goal.returns-then-waiting-eq0

@@ -2,7 +2,6 @@
 use borrow.Author.Tests.{le-leb, lt-leb}
 use Rattle.quantities.proofs.Tested.{passed, failed}
 use Rattle.link.specs.Link.{receive_of}
-use borrow.Author.Rules.{rules}
 use Rattle.link.proofs.link.receive.Goals as goal
 
 pub returns-then-not-admits_bits : goal.returns-then-not-admits_bits

@@ -3,9 +3,7 @@ use mathlib.Core.Path.{sym, ◌∙◌}
 use native.Mathlib.Omega.{arith}
 use Rattle.quantities.proofs.Tested.{passed, failed}
 use Rattle.link.proofs.Limits.{due_count}
-use borrow.Author.Tests.{not-false}
 use Rattle.link.specs.Link.{try_deliver}
-use borrow.Author.Rules.{rules}
 use Rattle.link.proofs.link.try_deliver.Goals as goal
 
 pub returns-then-not-is_due : goal.returns-then-not-is_due

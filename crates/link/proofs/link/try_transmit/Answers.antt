@@ -3,9 +3,8 @@ use mathlib.Core.Path.{sym, ◌∙◌}
 use native.Mathlib.Omega.{arith}
 use Rattle.quantities.proofs.Tested.{passed, failed}
 use Rattle.link.proofs.Limits.{free_count}
-use borrow.Author.Tests.{le-leb, lt-leb, not-false}
+use borrow.Author.Tests.{le-leb, lt-leb}
 use Rattle.link.specs.Link.{try_transmit}
-use borrow.Author.Rules.{rules}
 use Rattle.link.proofs.link.try_transmit.Goals as goal
 
 pub returns-then-not-is_free : goal.returns-then-not-is_free

@@ -1,5 +1,5 @@
 -- The test on the bits tells the patterns of a NaN. Assumes nothing.
-use Rattle.std.proofs.Common.{arith, rules}
+use Rattle.std.proofs.Common.{arith}
 use lib.Ieee.{of_bits, div}
 use Rattle.quantities.proofs.Nan.{nan_above, not_above}
 use Rattle.quantities.proofs.float.from_bits.Goals as goal

@@ -1,5 +1,5 @@
 -- Only a NaN differs from itself. Assumes nothing.
-use Rattle.std.proofs.Common.{T, sym, ap, subst, rules}
+use Rattle.std.proofs.Common.{T, sym, ap, subst}
 use lib.Ieee.{binary64, to_bits}
 use lib.Ieee.Compare.{differs_from_itself}
 use Rattle.quantities.proofs.Nan.{equals_itself}

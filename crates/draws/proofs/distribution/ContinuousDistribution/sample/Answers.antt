@@ -1,6 +1,5 @@
 -- Each arm rewrites by its case. Assumes nothing.
 use Rattle.draws.specs.Draws.{draw_of, uniform_of}
-use Rattle.std.proofs.Common.{rules}
 use Rattle.draws.proofs.distribution.ContinuousDistribution.sample.Goals as goal
 
 pub returns-in-Always : goal.returns-in-Always

@@ -1,7 +1,6 @@
 -- The invariant: what is left of the redraw after so many tries is the whole redraw. The measure is the tries left. Assumes nothing.
-use Rattle.std.proofs.Common.{◌≡◌, ◌-◌, ◌≤◌, refl, ◌∙◌, arith, rules}
+use Rattle.std.proofs.Common.{refl, ◌∙◌, arith, rules}
 use lib.Ieee.{of_bits}
-use Rattle.draws.specs.Draws.{redraw, positive_of}
 use Rattle.draws.proofs.Redraw.{spent, positive, again}
 use Rattle.draws.proofs.distribution.ContinuousDistribution.sample_positive.Goals as goal
 

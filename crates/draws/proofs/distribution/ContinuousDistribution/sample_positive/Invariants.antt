@@ -1,8 +1,6 @@
 -- The invariant: what is left of the redraw after so many tries is the whole redraw. The measure is the tries left. Assumes nothing.
-use Rattle.std.proofs.Common.{◌≡◌, ◌-◌, ◌≤◌, refl, ◌∙◌, arith, rules}
-use lib.Ieee.{of_bits}
+use Rattle.std.proofs.Common.{◌≡◌, ◌-◌, ◌≤◌}
 use Rattle.draws.specs.Draws.{redraw, positive_of}
-use Rattle.draws.proofs.Redraw.{spent, positive, again}
 use Rattle.draws.proofs.distribution.ContinuousDistribution.sample_positive.Given as goal
 
 abbrev pub invariant-loop-tries : goal.invariant-loop-tries

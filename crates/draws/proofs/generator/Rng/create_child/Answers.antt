@@ -1,6 +1,5 @@
 -- The four outputs and what is left of the parent, put together. Assumes nothing.
 use Rattle.draws.specs.Generator.{child_of}
-use Rattle.std.proofs.Common.{rules}
 use Rattle.draws.proofs.generator.Rng.create_child.Goals as goal
 
 pub returns : goal.returns

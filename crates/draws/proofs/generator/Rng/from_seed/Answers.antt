@@ -1,6 +1,5 @@
 -- The four outputs, put together. Assumes nothing.
 use Rattle.draws.specs.Generator.{from_seed}
-use Rattle.std.proofs.Common.{rules}
 use Rattle.draws.proofs.generator.Rng.from_seed.Goals as goal
 
 pub returns : goal.returns

@@ -1,5 +1,4 @@
 -- The record of the four words, replaced where they are zero. Assumes nothing.
-use Rattle.std.proofs.Common.{rules}
 use Rattle.draws.specs.Generator.{from_words}
 use Rattle.draws.proofs.generator.Rng.from_words.Goals as goal
 

@@ -1,6 +1,5 @@
 -- The callees' results, put together. Assumes nothing.
 use Rattle.draws.specs.Generator.{output_of, moved_on}
-use Rattle.std.proofs.Common.{rules}
 use Rattle.draws.proofs.generator.Rng.next.Goals as goal
 
 pub returns : goal.returns

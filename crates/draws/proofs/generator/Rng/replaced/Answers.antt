@@ -1,5 +1,4 @@
 -- Each return rewrites by the test that led there. Assumes nothing.
-use Rattle.std.proofs.Common.{rules}
 use Rattle.draws.specs.Generator.{replaced}
 use Rattle.draws.proofs.generator.Rng.replaced.Goals as goal
 

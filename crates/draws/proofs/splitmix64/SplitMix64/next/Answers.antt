@@ -1,5 +1,4 @@
 -- The callees' results, put together. Assumes nothing.
-use Rattle.std.proofs.Common.{rules}
 use Rattle.draws.proofs.splitmix64.SplitMix64.next.Goals as goal
 
 pub returns : goal.returns

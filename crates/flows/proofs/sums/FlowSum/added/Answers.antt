@@ -2,7 +2,6 @@
 use borrow.Author.Tests.{eq-eqb, le-leb, le-ltb, lt-leb, lt-ltb, ne_eqb}
 use Rattle.quantities.proofs.Tested.{passed, failed}
 use Rattle.flows.specs.Average.{added_of}
-use borrow.Author.Rules.{rules}
 use Rattle.flows.proofs.sums.FlowSum.added.Goals as goal
 
 pub returns-then-self-ne0 : goal.returns-then-self-ne0

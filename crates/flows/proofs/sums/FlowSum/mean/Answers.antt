@@ -1,7 +1,6 @@
 -- Each return rewrites by the tests that led there. Assumes nothing.
 use borrow.Author.Tests.{eq-eqb, le-leb, lt-leb, ne_eqb}
 use Rattle.flows.specs.Average.{mean_of}
-use borrow.Author.Rules.{rules}
 use Rattle.flows.proofs.sums.FlowSum.mean.Goals as goal
 
 pub returns-then-self-ne0 : goal.returns-then-self-ne0
