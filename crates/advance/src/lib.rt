@@ -1,5 +1,6 @@
 // The loop of ticks, for `simulation`: `tick` is it at 1, `run` at n, `records` at a batch at most.
 #![tactic(auto)]
+
 ghost use Rattle.std.specs.Prelude.{◌≡◌, replicate};
 ghost use Rattle.remy.specs.Run.{batch, no_noted};
 ghost use Rattle.advance.specs.Advance.{advance_of};

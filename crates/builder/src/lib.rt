@@ -1,6 +1,7 @@
 // The build (document 01, "Tick and history" and the rows 1 to 8 of "Stops"; document 02, K4): a network
 // and a seed give a simulation with its first part picked, or the number of what is refused.
 #![tactic(auto)]
+
 ghost use Rattle.std.specs.Prelude.{◌≡◌, ◌≤◌};
 ghost use Rattle.remy.specs.Build.{not_built, build_from, build_of};
 ghost use Rattle.parts.specs.Parts.{parts_of};
@@ -10,9 +11,9 @@ mod state;
 
 use crate::queue::{pick_next, queue_all};
 use crate::state::fresh;
+use draws::Rng;
 use parts::{back_words, make};
 use quantities::{Time, TimeSpan};
-use draws::Rng;
 use ranges::network_stop;
 use remy::{Built, Head, Next, RemyNetwork};
 use sender::LossySender;

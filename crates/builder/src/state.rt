@@ -3,12 +3,12 @@ ghost use Rattle.remy.specs.State.{with_head};
 ghost use Rattle.remy.specs.Build.{unqueued, empty_simulation};
 ghost use Rattle.parts.specs.Parts.{parts_of};
 
+use draws::Rng;
 use meters::AverageFlowMeter;
 use parts::{
     blank_transit, blank_waiting, blank_words, empty_network, empty_words, new_line, no_parts,
 };
 use quantities::{OptionTime, Time};
-use draws::Rng;
 use remy::{Head, Next, RemyNetwork, Simulation};
 use sender::LossySender;
 use toggler::{Queued, Toggler};

@@ -2,6 +2,7 @@
 // arrays and small structs that its clauses read. `fitness` puts them together, and gives what the
 // functions with a `requires` demand.
 #![tactic(auto)]
+
 pub mod counts;
 pub mod packets;
 pub mod queue;

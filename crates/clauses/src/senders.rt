@@ -4,10 +4,10 @@ ghost use Rattle.meters.specs.Meter.{is_on};
 ghost use Rattle.remy.specs.Fit.{is_timed, sender_on};
 ghost use Rattle.clauses.specs.Tests.{AtMost, timer_test, enabled_test, state_test, start_test, meter_test, agree_test, sent_count_test, words_test, sender_test, senders_test};
 
+use draws::Rng;
 use meters::AverageFlowMeter;
 use quantities::float::in_range;
 use quantities::{OptionTime, Time, TimeSpan};
-use draws::Rng;
 use ranges::frame::{past_fit, time_held};
 use ranges::window_fit;
 use sender::{Enabled, LossySender, Policy, SenderState};

@@ -1,6 +1,7 @@
 // The lines of a report put into a lent buffer, in one go or part by part (document 01, "The text
 // program").
 #![tactic(auto)]
+
 ghost use Rattle.std.specs.Prelude.{◌≤◌, ◌≡◌, [], ◌∷◌, map, ltb, take};
 ghost use Rattle.remy.specs.Run.{batch_of};
 ghost use Rattle.printer.specs.Printing.{refused_text};

@@ -1,6 +1,7 @@
 // What is lent (document 01, "Meter"): the meter's two changes over a lent meter, and the mean of a lent
 // list of flow records. Each calls a method by value, which does the work.
 #![tactic(auto)]
+
 ghost use Rattle.std.specs.Prelude.{◌≡◌};
 ghost use Rattle.flows.specs.Average.{average_of, told_mean};
 ghost use Rattle.meters.specs.Meter.{switched_of, received_of};

@@ -1,5 +1,6 @@
 // The lines of a run (document 01, "The text program"), each put into a lent buffer at a position.
 #![tactic(auto)]
+
 ghost use Rattle.std.specs.Prelude.{◌≡◌};
 ghost use Rattle.remy.specs.History.{letter_of};
 ghost use Rattle.printer.specs.Printing.{PutIs};

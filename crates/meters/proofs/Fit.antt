@@ -3,7 +3,6 @@ use mathlib.Core.Path.{◌≡◌, sym, subst}
 use mathlib.Core.Bool.{true, ◌&&◌}
 use Prim.Native.Nat.{◌*◌, ◌≤◌}
 use lib.Dec.{T, leb, leb→le}
-use lib.Ieee.{le}
 use lib.Ieee.Bits.{is_true}
 use lib.Ieee.Fits.{and_l, and_r}
 use Rattle.quantities.specs.declared.time.Time.{Time}

@@ -3,13 +3,14 @@
 //
 // All functions here are helpers for the crate `builder`, and no entry points.
 #![tactic(auto)]
+
 ghost use Rattle.std.specs.Prelude.{◌≡◌, ◌≤◌};
 ghost use Rattle.remy.specs.Build.{new_line, new_sender, blank_packet, blank_waiting, blank_transit, blank_toggler, blank_words, no_parts, populate, back_words, empty_network, empty_words};
 ghost use Rattle.parts.specs.Parts.{told_parts};
 
+use draws::{ContinuousDistribution, Rng};
 use link::{Limit, Line, LineValues, Packet, Ring, Transit, Waiting};
 use quantities::{Information, Time, TimeSpan};
-use draws::{ContinuousDistribution, Rng};
 use remy::{RemyNetwork, ReturnLine};
 use sender::{LossySender, Policy, SenderState};
 use toggler::{Toggler, create};

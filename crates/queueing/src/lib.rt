@@ -3,6 +3,7 @@
 //
 // All functions here are helpers for the crates `advance` and `builder`, and no entry points.
 #![tactic(auto)]
+
 ghost use Rattle.std.specs.Prelude.{◌≡◌, ◌≤◌};
 ghost use Rattle.remy.specs.State.{has_back, link, role_of, part_count};
 ghost use Rattle.remy.specs.Queue.{part_of, head_of};

@@ -1,6 +1,7 @@
 // The ranges of a network (document 01, "Stops", rows 1 to 7; document 02, K4, 20) and its lines, and the
 // ranges of clock and lines (the paragraph "Unfit").
 #![tactic(auto)]
+
 ghost use Rattle.std.specs.Prelude.{cond, ◌≡◌};
 ghost use Rattle.remy.specs.Network.{limit_fit, sizes_fit, times_fit, window_fit, policy_fit, back_fit, network_stop};
 ghost use Rattle.ranges.specs.Frame.{values_stop};
@@ -8,9 +9,9 @@ ghost use Rattle.ranges.specs.Frame.{values_stop};
 pub mod frame;
 pub mod lines;
 
+use draws::ContinuousDistribution;
 use link::{Limit, LineValues};
 use quantities::float::in_range;
-use draws::ContinuousDistribution;
 use remy::{RemyNetwork, ReturnLine};
 use sender::Policy;
 

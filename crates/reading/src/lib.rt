@@ -1,5 +1,6 @@
 // What is read of a simulation: its time, which is the clock, and the flow of a sender.
 #![tactic(auto)]
+
 ghost use Rattle.std.specs.Prelude.{◌≡◌};
 ghost use Rattle.reading.specs.Flow.{told_flow, flow_of};
 

@@ -1,6 +1,6 @@
 -- The turns of a sender and of a toggler keep what a simulation keeps, and so does every tick. Assumes nothing.
 use mathlib.Core.Path.{◌≡◌, refl}
-use mathlib.Core.Bool.{Bool, true, false, not, cond}
+use mathlib.Core.Bool.{Bool, true, false, not}
 use mathlib.Core.List.{List, [], ◌∷◌, ◌++◌}
 use Prim.Native.Nat.{ℕ, zero, suc, ◌+◌, ◌<◌}
 use native.Mathlib.Omega.{arith}
@@ -23,8 +23,8 @@ use Rattle.remy.specs.declared.simulation.Simulation.{Simulation}
 use Rattle.remy.specs.declared.simulation.Mark.TheVariants as Mark
 use Rattle.remy.specs.declared.simulation.Name.TheVariants as Name
 use Rattle.remy.specs.declared.simulation.TickRecord.{TickRecord}
-use Rattle.remy.specs.State.{has_back, Role, link, bouncer, sender, toggler, nobody, role_in, sender_at, toggler_at, with_sender, with_toggler}
-use Rattle.remy.specs.Queue.{requeue, picked}
+use Rattle.remy.specs.State.{has_back, Role, bouncer, sender, toggler, nobody, role_in, sender_at, toggler_at, with_sender, with_toggler}
+use Rattle.remy.specs.Queue.{requeue}
 use Rattle.remy.specs.Tick.{named, record_at, arrives, Acted, enabled_sender, timer_with, send_with, sender_with, sender_acts, toggler_with, toggler_acts, acts_of, switched_sender, switch_with, deliver, pick_again, outcome_with, outcome_of}
 use Rattle.remy.specs.History.{PacketId, Entry, is_s, is_p, sends, admissions, counted}
 use Rattle.remy.specs.Names.{is_leave}

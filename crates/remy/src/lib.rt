@@ -3,6 +3,7 @@
 // account of packets, which proofs/ proves. The code that equals them is in the crates `builder`,
 // `fitness` and `simulation`; the loop of ticks is in `advance`, and what a part does in `turns`.
 #![tactic(auto)]
+
 pub mod network;
 pub mod simulation;
 

@@ -1,5 +1,5 @@
-use link::LineValues;
 use draws::ContinuousDistribution;
+use link::LineValues;
 use sender::Policy;
 
 // The values of a return line, if there is one.

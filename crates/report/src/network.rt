@@ -3,9 +3,9 @@ ghost use Rattle.std.specs.Prelude.{◌≡◌};
 ghost use Rattle.report.specs.Network.{limit_of, distribution_of, policy_of, network_of};
 
 use description::Description;
+use draws::ContinuousDistribution;
 use link::{Limit, LineValues};
 use quantities::float::from_bits;
-use draws::ContinuousDistribution;
 use remy::{RemyNetwork, ReturnLine};
 use sender::Policy;
 

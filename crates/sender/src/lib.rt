@@ -2,6 +2,7 @@
 // src/components/senders/lossy.rs. Functions on small structs; whoever owns the state keeps the array
 // of senders and calls them.
 #![tactic(auto)]
+
 pub mod lossy;
 
 pub use lossy::{Enabled, Heard, LossySender, Policy, Returned, SenderState, Sent};

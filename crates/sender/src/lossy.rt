@@ -1,10 +1,10 @@
 ghost use Rattle.std.specs.Prelude.{◌≡◌, ◌+◌, ◌/◌, min, max};
 ghost use Rattle.sender.specs.Sender.{first_window, enabled_of, disabled_of, may_send, sender_next, timer_due, window_sent, window_counted, timer_in, timer_sent, tick_timer, tick_send, returned_of};
 
+use draws::Rng;
 use link::Packet;
 use quantities::time::earliest_opt;
 use quantities::{OptionTime, Time, TimeSpan};
-use draws::Rng;
 
 // How a window is chosen: held at a size; grown from first to most; or grown from 1 to most, and
 // halved by a timer at each gap.

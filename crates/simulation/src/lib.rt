@@ -4,6 +4,7 @@
 // and that runs join: wherever the state given is what m ticks of another gave, n ticks of it end as
 // m + n of the other do.
 #![tactic(auto)]
+
 ghost use Rattle.std.specs.Prelude.{◌≡◌};
 ghost use Rattle.remy.specs.Tick.{tick_of};
 ghost use Rattle.remy.specs.Run.{run_of, TickNumber, batch_of, records_of, ran_of};

@@ -2,6 +2,7 @@
 // FlowForge's src/components/toggler.rs and the tick queue of src/simulation.rs. Functions on small
 // structs; whoever owns the state keeps the arrays and calls them.
 #![tactic(auto)]
+
 pub mod tick_queue;
 pub mod toggler;
 

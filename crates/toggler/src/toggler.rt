@@ -1,8 +1,8 @@
 ghost use Rattle.std.specs.Prelude.{◌≡◌, cond};
 ghost use Rattle.toggler.specs.Toggler.{new_toggler, toggle_of};
 
-use quantities::{Time, TimeSpan};
 use draws::{ContinuousDistribution, PositiveSample, Rng};
+use quantities::{Time, TimeSpan};
 
 // Whether its sender is on, when that changes next, and its generator.
 #[derive(Clone, Copy)]

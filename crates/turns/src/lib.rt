@@ -3,6 +3,7 @@
 //
 // All functions here are helpers for the crate `advance`, and no entry points.
 #![tactic(auto)]
+
 ghost use Rattle.std.specs.Prelude.{◌≡◌, ◌+◌, ◌*◌, ◌%◌, ◌≤◌, ◌<◌, ◌^◌};
 ghost use Rattle.remy.specs.State.{values_of};
 ghost use Rattle.remy.specs.Tick.{empty_record, begun_name, lost_mark};

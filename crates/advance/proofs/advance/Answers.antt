@@ -1,18 +1,16 @@
 -- The loop keeps: the ticks left from here give what all n give from the start; what the types of code say; a steady state where it began with one; and the senders' packet bits. Each arm's turn is a law of Loop; what is known at a point of the code is shown once, for all that need it. Assumes nothing.
 use mathlib.Core.Path.{◌≡◌, refl, sym, ap, subst, ◌∙◌}
-use mathlib.Core.Bool.{Bool, cond}
+use mathlib.Core.Bool.{Bool}
 use mathlib.Core.List.{List}
-use mathlib.Core.Logic.{⊎_elim}
-use Prim.Native.Nat.{ℕ, ◌+◌, ◌*◌, ◌-◌, ◌≤◌, ◌<◌, ◌^◌}
+use Prim.Native.Nat.{ℕ, ◌+◌, ◌-◌, ◌≤◌, ◌<◌, ◌^◌}
 use native.Mathlib.Omega.{arith}
-use lib.ListN.{length, get_or, drop, replicate}
-use borrow.Author.Rules.{rules}
+use lib.ListN.{length, get_or, replicate}
 use borrow.Author.Tests.{ne_eqb}
 use Rattle.quantities.specs.Units.{amount_of}
 use Rattle.link.specs.declared.link.LineValues.{LineValues}
 use Rattle.link.specs.Ring.{places}
 use Rattle.link.proofs.Items.{Sound}
-use Rattle.toggler.specs.Queue.{queue_places, pick_from, pick_of}
+use Rattle.toggler.specs.Queue.{queue_places, pick_of}
 use Rattle.toggler.proofs.Pick.{NoneFrom, takes, keeps, finished}
 use Rattle.remy.specs.declared.network.RemyNetwork.{RemyNetwork}
 use Rattle.remy.specs.declared.simulation.Simulation.{Simulation}
@@ -61,8 +59,9 @@ fit-known : (p : Joined-steady) → p.if-steady.fit ≡ fit p.loop-done.st
 fit-known p =
     let l = p.loop-done in
     elim p.if-steady.branch [
-        then-steady w ↦ w.fit-is ∙ sym (steady-fit l.st ((due-at p.before).keeps w.if-steady.true).test)
-      | else-steady w ↦ w.fit-is ∙ w.is_fit-fit.ensures ]
+      | then-steady w ↦ w.fit-is ∙ sym (steady-fit l.st ((due-at p.before).keeps w.if-steady.true).test)
+      | else-steady w ↦ w.fit-is ∙ w.is_fit-fit.ensures
+    ]
 
 -- the state that the turn begins with
 abbrev now_at : (p : After-whose_turn-now) → Simulation
@@ -294,8 +293,7 @@ loop-done-smaller-then-ripe c = rw c.if-ripe.true (omega (arith, c.loop-done-tes
 
 pub loop-done-preserved-then-ripe : goal.loop-done-preserved-then-ripe
 loop-done-preserved-then-ripe c =
-    let l = c.loop-done in
-    (
+    let l = c.loop-done in (
       omega (arith, c.loop-done-test.true),
       picked-due _ _ _ _ _ _ _ l.st (ripe-at (goal.at.loop-done-preserved-then-ripe c).Then-ripe) _ (picks_emptied l.st _ c.head_of-picked.result (best-known (goal.at.loop-done-preserved-then-ripe c).After-loop-k) c.head_of-picked.ensures) _ c.record_place-record_at.ensures _ c.noted-noted.ensures,
       l.invariant.2,

@@ -1,6 +1,5 @@
 -- `builder::build` meets its contract: each return is a case of the build. Assumes nothing.
 use mathlib.Core.Path.{◌∙◌}
-use borrow.Author.Rules.{rules}
 use Rattle.builder.proofs.Building.{refused, few, spent, finished}
 use Rattle.builder.proofs.build.Goals as goal
 

@@ -1,7 +1,6 @@
 -- `builder::finish` meets its contract: the callees give the second link's generator, the unqueued state, its queue, and the first pick. Nothing is on a line, so its ring is in
 -- range. Assumes nothing.
 use lib.Ieee.{of_bits}
-use borrow.Author.Rules.{rules}
 use Rattle.builder.proofs.Places.{new_start}
 use Rattle.builder.proofs.finish.Goals as goal
 

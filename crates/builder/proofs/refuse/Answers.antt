@@ -1,5 +1,4 @@
 -- `builder::refuse` meets its contract: the callee gives the empty simulation. Assumes nothing.
-use borrow.Author.Rules.{rules}
 use Rattle.builder.proofs.refuse.Goals as goal
 
 pub returns : goal.returns

@@ -1,6 +1,5 @@
 -- By the stage of the report. Assumes nothing.
 use Rattle.filling.proofs.Ending.{at_stage, nothing_left}
-use borrow.Author.Rules.{rules}
 use Rattle.filling.proofs.fill.Goals as goal
 
 pub returns-in-Refused : goal.returns-in-Refused

@@ -4,7 +4,6 @@ use mathlib.Core.Path.{◌≡◌, refl, ap, ◌∙◌}
 use Rattle.report.proofs.Texts.{for_each}
 use Rattle.filling.specs.Filling.{end_of}
 use Rattle.filling.proofs.Ending.{all_as}
-use borrow.Author.Rules.{rules}
 use Rattle.notation.specs.InPlace.{NoBytes, calls_of}
 use Rattle.filling.proofs.print_flows.Code as code
 use Rattle.filling.proofs.print_flows.Goals as goal

@@ -3,7 +3,6 @@ use mathlib.Core.List.{[], ◌∷◌}
 use mathlib.Core.Path.{◌≡◌, refl}
 use Rattle.report.proofs.Texts.{for_each}
 use Rattle.filling.proofs.Ending.{all_as}
-use borrow.Author.Rules.{rules}
 use Rattle.notation.specs.InPlace.{NoBytes, calls_of}
 use Rattle.filling.proofs.print_run.Code as code
 use Rattle.filling.proofs.print_run.Goals as goal

@@ -1,6 +1,5 @@
 -- All put, or too long. Assumes nothing.
 use Rattle.filling.proofs.Ending.{all_put, too_long}
-use borrow.Author.Rules.{rules}
 use Rattle.filling.proofs.put_all.Goals as goal
 
 pub returns-then-f : goal.returns-then-f

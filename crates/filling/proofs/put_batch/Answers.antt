@@ -1,12 +1,8 @@
 -- The invariant: what is so from here is so from the start. The measure is how many records are left. Assumes nothing.
 use Prim.Native.Nat.{◌-◌, ◌≤◌}
-use mathlib.Core.List.{map}
-use mathlib.Core.Path.{◌≡◌, refl, ◌∙◌}
+use mathlib.Core.Path.{refl, ◌∙◌}
 use native.Mathlib.Omega.{arith}
-use borrow.Author.Rules.{rules}
-use lib.ListN.{length, take, drop}
-use Rattle.filling.specs.Filling.{Puts, batch_by, noted_line}
-use Rattle.filling.proofs.Putting.{further, From}
+use lib.ListN.{length}
 use Rattle.filling.proofs.Running.{note_goes, note_full, notes_end, notes_all}
 use Rattle.filling.proofs.put_batch.Goals as goal
 use Rattle.filling.proofs.put_batch.Goals.{Start}

@@ -1,13 +1,10 @@
 -- The invariant: what is so from here is so from the start. The measure is how many records are left. Assumes nothing.
 use Prim.Native.Nat.{◌-◌, ◌≤◌}
 use mathlib.Core.List.{map}
-use mathlib.Core.Path.{◌≡◌, refl, ◌∙◌}
-use native.Mathlib.Omega.{arith}
-use borrow.Author.Rules.{rules}
+use mathlib.Core.Path.{◌≡◌}
 use lib.ListN.{length, take, drop}
 use Rattle.filling.specs.Filling.{Puts, batch_by, noted_line}
 use Rattle.filling.proofs.Putting.{further, From}
-use Rattle.filling.proofs.Running.{note_goes, note_full, notes_end, notes_all}
 use Rattle.filling.proofs.put_batch.Given as goal
 
 abbrev pub invariant-loop-i : goal.invariant-loop-i

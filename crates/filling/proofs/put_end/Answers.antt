@@ -1,6 +1,5 @@
 -- The stop line, and the flows after it. Assumes nothing.
 use Rattle.filling.proofs.Ending.{end_goes, end_full}
-use borrow.Author.Rules.{rules}
 use Rattle.filling.proofs.put_end.Goals as goal
 
 pub returns-in-At : goal.returns-in-At

@@ -1,14 +1,11 @@
 -- The invariant: what is so from here is so from the start. The measure is how many flows are left. Assumes nothing.
-use Prim.Native.Nat.{◌-◌, ◌<◌}
-use mathlib.Core.Path.{◌≡◌, refl, ◌∙◌}
-use native.Mathlib.Omega.{arith}
+use Prim.Native.Nat.{◌-◌}
+use mathlib.Core.Path.{◌≡◌}
 use lib.ListN.{length}
-use borrow.Author.Rules.{rules}
-use Rattle.lines.specs.Lines.{flow_count, flows_from}
+use Rattle.lines.specs.Lines.{flows_from}
 use Rattle.report.specs.declared.run.Stage.TheVariants as Stage
 use Rattle.filling.specs.Filling.{rest_at, filled_by}
 use Rattle.filling.proofs.Putting.{From}
-use Rattle.filling.proofs.Ending.{flow-count-le, flow_goes, flow-full, flows_done}
 use Rattle.filling.proofs.put_flows.Given as goal
 
 abbrev pub invariant-loop-i : goal.invariant-loop-i

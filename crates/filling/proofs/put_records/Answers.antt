@@ -2,14 +2,9 @@
 use Prim.Native.Nat.{◌≤◌}
 use mathlib.Core.Path.{◌≡◌, refl, sym, ◌∙◌}
 use native.Mathlib.Omega.{arith}
-use borrow.Author.Rules.{rules}
 use borrow.Author.Tests.{ltb-true, ltb-false}
 use lib.ListN.{length}
 use Rattle.remy.specs.Run.{batch_of}
-use Rattle.lines.specs.Lines.{record_lines}
-use Rattle.report.specs.declared.run.Stage.TheVariants as Stage
-use Rattle.filling.specs.Filling.{rest_at, filled_by}
-use Rattle.filling.proofs.Putting.{From}
 use Rattle.filling.proofs.Running.{batch_some, batch_few, batch_goes, batch-stops, batch-waits, records_end}
 use Rattle.filling.proofs.put_records.Goals as goal
 use Rattle.filling.proofs.put_records.Goals.{After-put_batch-put}

@@ -1,6 +1,5 @@
 -- One line, put or left. Assumes nothing.
 use Rattle.filling.proofs.Ending.{refused_put, refused_full}
-use borrow.Author.Rules.{rules}
 use Rattle.filling.proofs.put_refused.Goals as goal
 
 pub returns-in-At : goal.returns-in-At

@@ -1,12 +1,6 @@
 -- The records, and the end where all of them had room. Assumes nothing.
-use mathlib.Core.List.{[], ◌∷◌}
-use mathlib.Core.Path.{subst}
-use denote.Enum.Declared.{tag_of}
-use types.Run.{OneOf, miss}
-use Rattle.report.specs.declared.run.Stage.{Stage}
-use Rattle.report.specs.contracts.run.Stage.{the_type}
+use mathlib.Core.List.{[]}
 use Rattle.filling.proofs.Ending.{run_ends, run_waits}
-use borrow.Author.Rules.{rules}
 use Rattle.filling.proofs.put_run.Goals as goal
 
 pub returns-in-Stop : goal.returns-in-Stop

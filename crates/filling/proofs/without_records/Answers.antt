@@ -1,12 +1,6 @@
 -- By the stage of the report. Assumes nothing.
 use Rattle.filling.proofs.Ending.{ticks-run, no_ticks}
-use mathlib.Core.List.{[], ◌∷◌}
-use mathlib.Core.Path.{subst}
-use denote.Enum.Declared.{tag_of}
-use types.Run.{OneOf, miss}
-use Rattle.report.specs.declared.run.Stage.{Stage}
-use Rattle.report.specs.contracts.run.Stage.{the_type}
-use borrow.Author.Rules.{rules}
+use mathlib.Core.List.{[]}
 use Rattle.filling.proofs.without_records.Goals as goal
 
 pub returns-in-Ticks : goal.returns-in-Ticks

@@ -1,5 +1,5 @@
 -- The whole list is folded at the end, and its fold's mean is the mean of the list. Assumes nothing.
-use Rattle.std.proofs.Common.{◌≡◌, sym, ap, ◌∙◌, ◌≤◌, arith}
+use Rattle.std.proofs.Common.{ap, ◌∙◌, ◌≤◌, arith}
 use lib.ListN.{length, drop_of_length-le}
 use Rattle.flows.specs.Average.{mean_of}
 use Rattle.flows.proofs.Fold.{fold_mean}

@@ -1,6 +1,5 @@
 -- The line of its parts. Assumes nothing.
 use Rattle.lines.specs.Lines.{flow_at}
-use borrow.Author.Rules.{rules}
 use Rattle.lines.proofs.flow_bytes.Goals as goal
 
 pub returns : goal.returns

@@ -1,5 +1,4 @@
 -- A packet that is named keeps its numbers. Assumes nothing.
-use borrow.Author.Rules.{rules}
 use Rattle.lines.proofs.named.Goals as goal
 
 pub returns-in-None : goal.returns-in-None

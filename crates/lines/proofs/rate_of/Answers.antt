@@ -1,5 +1,4 @@
 -- By cases. Assumes nothing.
-use borrow.Author.Rules.{rules}
 use Rattle.lines.proofs.rate_of.Goals as goal
 
 pub returns-in-Properties : goal.returns-in-Properties

@@ -1,6 +1,5 @@
 -- The line of its parts. Assumes nothing.
 use Rattle.lines.specs.Lines.{record_line}
-use borrow.Author.Rules.{rules}
 use Rattle.lines.proofs.record_bytes.Goals as goal
 
 pub returns : goal.returns

@@ -1,5 +1,4 @@
 -- By cases. Assumes nothing.
-use borrow.Author.Rules.{rules}
 use Rattle.lines.proofs.rtt_of.Goals as goal
 
 pub returns-in-NoPacketsAcked : goal.returns-in-NoPacketsAcked

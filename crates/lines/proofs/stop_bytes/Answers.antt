@@ -1,6 +1,5 @@
 -- The line of its parts. Assumes nothing.
 use Rattle.lines.specs.Lines.{stop_line}
-use borrow.Author.Rules.{rules}
 use Rattle.lines.proofs.stop_bytes.Goals as goal
 
 pub returns : goal.returns

@@ -1,6 +1,5 @@
 -- `parts::back_words` meets its contract: each return rewrites by its case. Assumes nothing.
 use Rattle.remy.specs.Build.{back_words}
-use borrow.Author.Rules.{rules}
 use Rattle.parts.proofs.back_words.Goals as goal
 
 pub returns-in-None : goal.returns-in-None

@@ -1,6 +1,5 @@
 -- `parts::blank_toggler` meets its contract: it is the literal of the definition. Assumes nothing.
 use lib.Ieee.{of_bits}
-use borrow.Author.Rules.{rules}
 use Rattle.parts.proofs.blank_toggler.Goals as goal
 
 pub returns : goal.returns

@@ -1,5 +1,4 @@
 -- `parts::blank_waiting` meets its contract: it is the literal of the definition. Assumes nothing.
-use borrow.Author.Rules.{rules}
 use Rattle.parts.proofs.blank_waiting.Goals as goal
 
 pub returns : goal.returns

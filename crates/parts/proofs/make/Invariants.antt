@@ -1,12 +1,9 @@
 -- `parts::make` meets its contract. The invariant: the parts that are left to make, from those made so far, give the parts of the whole. The measure is what is left.
 -- Assumes nothing.
 use Prim.Native.Nat.{◌-◌, ◌≤◌}
-use mathlib.Core.Path.{◌≡◌, ◌∙◌}
-use native.Mathlib.Omega.{arith}
-use borrow.Author.Rules.{rules}
+use mathlib.Core.Path.{◌≡◌}
 use Rattle.remy.specs.Build.{no_parts, populate}
 use Rattle.parts.specs.Parts.{parts_of}
-use Rattle.parts.proofs.Making.{all_made, goes_on, stops, begins}
 use Rattle.parts.proofs.make.Given as goal
 
 abbrev pub invariant-loop-i : goal.invariant-loop-i

@@ -1,6 +1,5 @@
 -- Each return rewrites by the tests and the cases that led there. Assumes nothing.
 use lib.Ieee.{of_bits}
-use borrow.Author.Rules.{rules}
 use Rattle.queueing.proofs.head_of.Goals as goal
 
 pub returns-in-None : goal.returns-in-None

@@ -1,6 +1,4 @@
 -- Each return rewrites by the tests and the cases that led there. Assumes nothing.
-use borrow.Author.Tests.{not-false, not-true}
-use borrow.Author.Rules.{rules}
 use Rattle.queueing.proofs.link_slot.Goals as goal
 
 pub returns-then-not-changed : goal.returns-then-not-changed

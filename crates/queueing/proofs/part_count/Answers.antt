@@ -1,5 +1,4 @@
 -- How many parts there are, by whether there is a return line. Assumes nothing.
-use borrow.Author.Rules.{rules}
 use Rattle.queueing.proofs.part_count.Goals as goal
 
 pub returns-then-has_back : goal.returns-then-has_back

@@ -1,5 +1,4 @@
 -- Each return rewrites by the tests and the cases that led there. Assumes nothing.
-use borrow.Author.Rules.{rules}
 use Rattle.queueing.proofs.place_after.Goals as goal
 
 pub returns-in-Some : goal.returns-in-Some

@@ -1,5 +1,4 @@
 -- A place holds its time. Assumes nothing.
-use borrow.Author.Rules.{rules}
 use Rattle.queueing.proofs.queued_anew.Goals as goal
 
 pub returns : goal.returns

@@ -1,7 +1,6 @@
 -- Each return rewrites by the tests that led there. Assumes nothing.
-use borrow.Author.Tests.{eq-eqb, le-ltb, lt-ltb, ne_eqb, not-false, not-true}
+use borrow.Author.Tests.{eq-eqb, le-ltb, lt-ltb, ne_eqb}
 use Rattle.remy.specs.State.{role_of}
-use borrow.Author.Rules.{rules}
 use Rattle.queueing.proofs.role.Goals as goal
 
 pub returns-then-k-eq0 : goal.returns-then-k-eq0

@@ -1,6 +1,5 @@
 -- A time is its own case. Assumes nothing.
 use mathlib.Core.Path.{sym}
-use borrow.Author.Rules.{rules}
 use Rattle.queueing.proofs.time_anew.Goals as goal
 
 pub returns-in-Some : goal.returns-in-Some

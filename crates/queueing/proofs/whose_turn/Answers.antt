@@ -1,8 +1,6 @@
 -- Each return rewrites by the tests and the cases that led there. Assumes nothing.
-use borrow.Author.Tests.{not-false, not-true}
 use Rattle.queueing.specs.Queueing.{now_of}
 use lib.Ieee.{of_bits}
-use borrow.Author.Rules.{rules}
 use Rattle.queueing.proofs.whose_turn.Goals as goal
 
 pub returns-then-not-fit : goal.returns-then-not-fit

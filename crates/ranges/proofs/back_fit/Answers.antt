@@ -5,7 +5,6 @@ use lib.Dec.{eqb}
 use Rattle.link.specs.declared.link.LineValues.{LineValues}
 use Rattle.remy.specs.Network.{delay_fit, rate_fit, loss_fit, limit_fit, values_fit}
 use Rattle.ranges.specs.Frame.{values_stop}
-use borrow.Author.Rules.{rules}
 use Rattle.ranges.proofs.back_fit.Goals as goal
 
 chain : (a b c d : Bool) → eqb (cond a (cond b (cond c (cond d 0 4) 3) 2) 1) 0 ≡ (a && b && c && d)

@@ -1,5 +1,4 @@
 -- Each arm rewrites by its case. Assumes nothing.
-use borrow.Author.Rules.{rules}
 use Rattle.ranges.proofs.limit_fit.Goals as goal
 
 pub returns-in-Bits : goal.returns-in-Bits

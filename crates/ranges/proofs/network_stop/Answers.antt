@@ -4,7 +4,6 @@ use mathlib.Core.Path.{◌≡◌, refl}
 use mathlib.Core.Bool.{Bool, true, false, ◌&&◌, cond}
 use Rattle.remy.specs.Network.{network_stop}
 use Rattle.ranges.specs.Frame.{values_stop}
-use borrow.Author.Rules.{rules}
 use Rattle.ranges.proofs.network_stop.Goals as goal
 
 both : (a b : Bool) (x y : ℕ) → cond a (cond b x y) y ≡ cond (a && b) x y

@@ -1,6 +1,5 @@
 -- Each return rewrites by the case and the tests that led there. Assumes nothing.
 use lib.Ieee.{of_bits}
-use borrow.Author.Rules.{rules}
 use Rattle.quantities.proofs.Tested.{passed, failed}
 use Rattle.ranges.proofs.policy_fit.Goals as goal
 

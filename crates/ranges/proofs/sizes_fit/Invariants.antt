@@ -1,14 +1,10 @@
 -- The invariant: the packets of the first i senders have bits in the range. The measure is what is left. Assumes nothing.
 use Prim.Native.Nat.{ℕ, ◌-◌, ◌≤◌}
-use mathlib.Core.Path.{◌≡◌, refl}
+use mathlib.Core.Path.{◌≡◌}
 use mathlib.Core.Bool.{Bool, true}
 use mathlib.Core.List.{List}
-use native.Mathlib.Omega.{arith}
 use lib.ListN.{get_or}
-use borrow.Author.Tests.{le-leb, lt-leb}
-use borrow.Author.Rules.{rules}
 use Rattle.remy.specs.Network.{up_to, between}
-use Rattle.ranges.proofs.UpTo.{up_goes, up_stops, up_done}
 use Rattle.ranges.proofs.sizes_fit.Given as goal
 
 abbrev pub fits : List ℕ → ℕ → Bool

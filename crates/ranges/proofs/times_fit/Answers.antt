@@ -1,6 +1,5 @@
 -- Each return rewrites by the case and the tests that led there. Assumes nothing.
 use lib.Ieee.{of_bits}
-use borrow.Author.Rules.{rules}
 use Rattle.ranges.proofs.times_fit.Goals as goal
 
 pub returns-then-v : goal.returns-then-v

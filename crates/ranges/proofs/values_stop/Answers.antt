@@ -1,7 +1,6 @@
 -- The tests' results are put into the chain of stops, from the lowest. Assumes nothing.
 use lib.Ieee.{of_bits}
 use Rattle.ranges.specs.Frame.{values_stop}
-use borrow.Author.Rules.{rules}
 use Rattle.ranges.proofs.values_stop.Goals as goal
 
 pub returns : goal.returns

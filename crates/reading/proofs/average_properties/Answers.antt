@@ -1,6 +1,5 @@
 -- Each return rewrites by the tests that led there. Assumes nothing.
 use mathlib.Core.Path.{ap}
-use borrow.Author.Rules.{rules}
 use borrow.Author.Tests.{lt-ltb, le-ltb}
 use Rattle.reading.specs.Flow.{told, flow_of}
 use Rattle.reading.proofs.average_properties.Goals as goal

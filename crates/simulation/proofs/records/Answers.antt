@@ -1,7 +1,6 @@
 -- The loop is the run with its records where no place is used over again, and demand 3 is given on; which numbers it gives, that the clock can't go back, and that it joins and is so many ticks,
 -- is said of the run. Assumes nothing.
 use mathlib.Core.Path.{sym, ap, subst, ◌∙◌}
-use borrow.Author.Rules.{rules}
 use Rattle.remy.specs.declared.simulation.Ran.{Ran}
 use Rattle.remy.specs.Run.{TickNumber, batch_of, ran_of}
 use Rattle.remy.specs.Joins.{JoinsOn, TickByTick}

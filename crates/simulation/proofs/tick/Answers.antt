@@ -1,7 +1,6 @@
 -- The loop at 1 is the tick, and demand 3 is given on; which numbers it gives, that the clock can't go back, and that it is a run of 1 and joins, is said of the definition.
 -- Assumes nothing.
 use mathlib.Core.Path.{sym, ap, subst, ◌∙◌}
-use borrow.Author.Rules.{rules}
 use Rattle.remy.specs.declared.simulation.Ticked.{Ticked}
 use Rattle.remy.specs.Run.{TickNumber}
 use Rattle.remy.specs.Joins.{JoinsOn, as_run}

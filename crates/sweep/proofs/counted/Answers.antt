@@ -1,5 +1,4 @@
 -- By cases of the answer. Assumes nothing.
-use borrow.Author.Rules.{rules}
 use Rattle.sweep.specs.Sweep.{count_of}
 use mathlib.Core.Path.{sym, ap}
 use Rattle.sweep.proofs.counted.Goals as goal

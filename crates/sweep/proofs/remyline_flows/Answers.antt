@@ -2,7 +2,6 @@
 use mathlib.Core.List.{[], ◌∷◌}
 use mathlib.Core.Path.{◌≡◌, refl}
 use Rattle.sweep.proofs.Counting.{flows_counted}
-use borrow.Author.Rules.{rules}
 use Rattle.notation.specs.InPlace.{InPlace, calls_of}
 use Rattle.sweep.proofs.remyline_flows.Code as code
 use Rattle.sweep.proofs.remyline_flows.Goals as goal

@@ -1,6 +1,5 @@
 -- Each return rewrites by the tests and the cases that led there. Assumes nothing.
 use Rattle.turns.specs.Turns.{arrived_at}
-use borrow.Author.Rules.{rules}
 use Rattle.turns.proofs.arrive.Goals as goal
 
 pub returns-in_default : goal.returns-in_default

@@ -1,5 +1,4 @@
 -- Each return rewrites by the tests and the cases that led there. Assumes nothing.
-use borrow.Author.Rules.{rules}
 use Rattle.turns.proofs.begun_name.Goals as goal
 
 pub returns-in-Starts : goal.returns-in-Starts

@@ -1,6 +1,5 @@
 -- Each return rewrites by the cases that led there. Assumes nothing.
 use Rattle.turns.specs.Turns.{heard_by}
-use borrow.Author.Rules.{rules}
 use Rattle.turns.proofs.hear.Goals as goal
 
 pub returns-in-Nobody : goal.returns-in-Nobody

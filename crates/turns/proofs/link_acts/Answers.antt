@@ -4,7 +4,6 @@ use Prim.Native.Nat.{◌<◌}
 use Rattle.link.specs.declared.link.Delivered.{Delivered}
 use Rattle.turns.proofs.InRange.{Ringed, on-line_range, waiting_range}
 use Rattle.turns.specs.Turns.{link_acted}
-use borrow.Author.Rules.{rules}
 use Rattle.turns.proofs.link_acts.Goals as goal
 
 pub end-at-requires : goal.end-at-requires

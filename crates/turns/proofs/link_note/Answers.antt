@@ -1,5 +1,4 @@
 -- The callees' results, put together. Assumes nothing.
-use borrow.Author.Rules.{rules}
 use Rattle.turns.proofs.link_note.Goals as goal
 
 pub returns : goal.returns

@@ -1,5 +1,4 @@
 -- A meter is its parts. Assumes nothing.
-use borrow.Author.Rules.{rules}
 use Rattle.turns.proofs.meter_anew.Goals as goal
 
 pub returns : goal.returns

@@ -1,6 +1,5 @@
 -- Each return rewrites by its test. Assumes nothing.
 use borrow.Author.Tests.{le-ltb, lt-ltb}
-use borrow.Author.Rules.{rules}
 use Rattle.turns.proofs.owner.Goals as goal
 
 pub returns-then-packet-lt16 : goal.returns-then-packet-lt16

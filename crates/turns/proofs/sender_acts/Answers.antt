@@ -5,7 +5,6 @@ use Rattle.sender.specs.declared.lossy.SenderState.{SenderState}
 use Rattle.turns.specs.declared.SenderActed.{SenderActed}
 use Rattle.turns.specs.declared.Sending.TheVariants as Sending
 use Rattle.turns.specs.Turns.{sender_acted}
-use borrow.Author.Rules.{rules}
 use Rattle.turns.proofs.sender_acts.Goals as goal
 
 -- nothing is sent, and the sender is as it was, but for its state

@@ -2,7 +2,6 @@
 use mathlib.Core.Path.{◌≡◌, sym, ap}
 use Rattle.sender.specs.declared.lossy.LossySender.{LossySender}
 use Rattle.sender.specs.declared.lossy.SenderState.{SenderState}
-use borrow.Author.Rules.{rules}
 use Rattle.turns.proofs.sender_anew.Goals as goal
 
 with-state : (x : LossySender) {w : SenderState} → w ≡ x.state → record { packets_sent = x.packets_sent; state = w; rng = x.rng } ≡ x

@@ -1,5 +1,4 @@
 -- Each return rewrites by the tests and the cases that led there. Assumes nothing.
-use borrow.Author.Rules.{rules}
 use Rattle.turns.proofs.toggler_note.Goals as goal
 
 pub returns-then-on : goal.returns-then-on

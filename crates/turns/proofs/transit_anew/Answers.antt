@@ -1,5 +1,4 @@
 -- A packet on the line is its parts. Assumes nothing.
-use borrow.Author.Rules.{rules}
 use Rattle.turns.proofs.transit_anew.Goals as goal
 
 pub returns : goal.returns

@@ -1,5 +1,4 @@
 -- A waiting packet is its parts. Assumes nothing.
-use borrow.Author.Rules.{rules}
 use Rattle.turns.proofs.waiting_anew.Goals as goal
 
 pub returns : goal.returns

@@ -1,7 +1,7 @@
 -- `builder::queue::pick_next` meets its contract: the picked part is a place of the queue, and the parts of the state are those of `picked`.
 -- Assumes nothing.
-use Rattle.std.proofs.Common.{◌≡◌, ◌<◌, arith, rules}
-use lib.ListN.{length, length-map}
+use Rattle.std.proofs.Common.{◌≡◌, ◌<◌, arith}
+use lib.ListN.{length}
 use Rattle.toggler.specs.Queue.{queue_places}
 use Rattle.queueing.proofs.Picks.{part_inside, picks}
 use Rattle.builder.proofs.queue.pick_next.Goals as goal

@@ -1,6 +1,5 @@
 -- `builder::state::empty_simulation` meets its contract: it is the literal of the definition. Assumes nothing.
 use lib.Ieee.{of_bits}
-use borrow.Author.Rules.{rules}
 use Rattle.remy.specs.Build.{empty_simulation}
 use Rattle.parts.proofs.Making.{none-senders, none-togglers}
 use Rattle.builder.proofs.state.empty_simulation.Goals as goal

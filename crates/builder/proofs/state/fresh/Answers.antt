@@ -1,6 +1,5 @@
 -- `builder::state::fresh` meets its contract: it is the literal of the definition. Assumes nothing.
 use lib.Ieee.{of_bits}
-use borrow.Author.Rules.{rules}
 use Rattle.builder.proofs.state.fresh.Goals as goal
 
 pub returns : goal.returns

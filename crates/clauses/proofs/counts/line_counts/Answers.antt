@@ -1,11 +1,11 @@
 -- The invariant of each loop: what is counted after so many packets, beside what was counted before it. The measures are what is left. Assumes nothing.
-use Prim.Native.Nat.{ℕ, ◌+◌, ◌*◌, ◌-◌, ◌≤◌}
+use Prim.Native.Nat.{ℕ, ◌+◌, ◌*◌, ◌-◌}
 use mathlib.Core.Path.{refl}
 use native.Mathlib.Omega.{arith}
 use borrow.Author.Rules.{rules}
 use Rattle.remy.specs.State.{no_waiting, no_transit}
 use Rattle.clauses.specs.Tests.{Added, line_of}
-use Rattle.clauses.proofs.Turns.{all_of, Counted, counted_none, counted-one, counted-other, counted-all, added_both}
+use Rattle.clauses.proofs.Turns.{all_of, counted_none, counted-one, counted-other, counted-all, added_both}
 use Rattle.clauses.proofs.counts.line_counts.Goals as goal
 use Rattle.clauses.proofs.counts.line_counts.Goals.{After-loop-i, Start}
 

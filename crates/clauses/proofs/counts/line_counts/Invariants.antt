@@ -1,11 +1,7 @@
 -- The invariant of each loop: what is counted after so many packets, beside what was counted before it. The measures are what is left. Assumes nothing.
-use Prim.Native.Nat.{ℕ, ◌+◌, ◌*◌, ◌-◌, ◌≤◌}
-use mathlib.Core.Path.{refl}
-use native.Mathlib.Omega.{arith}
-use borrow.Author.Rules.{rules}
+use Prim.Native.Nat.{◌+◌, ◌*◌, ◌-◌, ◌≤◌}
 use Rattle.remy.specs.State.{no_waiting, no_transit}
-use Rattle.clauses.specs.Tests.{Added, line_of}
-use Rattle.clauses.proofs.Turns.{all_of, Counted, counted_none, counted-one, counted-other, counted-all, added_both}
+use Rattle.clauses.proofs.Turns.{Counted}
 use Rattle.clauses.proofs.counts.line_counts.Given as goal
 
 abbrev pub invariant-loop-i : goal.invariant-loop-i

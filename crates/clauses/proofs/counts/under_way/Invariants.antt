@@ -1,13 +1,8 @@
 -- The invariant: the counts of the first l lines, and the times of their links. The measure is what is left. Assumes nothing.
 use Prim.Native.Nat.{◌*◌, ◌-◌, ◌≤◌}
-use mathlib.Core.Path.{◌≡◌, ◌∙◌}
-use native.Mathlib.Omega.{arith}
-use lib.ListN.{length, length-set, length-replicate}
-use borrow.Author.Rules.{rules}
-use Rattle.toggler.specs.declared.tick_queue.Queued.{Queued}
-use Rattle.toggler.specs.Queue.{no_queued}
+use mathlib.Core.Path.{◌≡◌}
+use lib.ListN.{length}
 use Rattle.clauses.specs.Tests.{lines_of, Counts, link_time, LinkTimes}
-use Rattle.clauses.proofs.Members.{counts-none, counts-one, counts_all, times_none, times-one, times-all}
 use Rattle.clauses.proofs.counts.under_way.Given as goal
 
 abbrev pub invariant-loop-l : goal.invariant-loop-l

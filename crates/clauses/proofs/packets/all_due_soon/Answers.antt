@@ -1,9 +1,8 @@
 -- The invariant: no packet on the first l lines is due too late. The measure is what is left. Assumes nothing.
-use Prim.Native.Nat.{◌-◌, ◌≤◌}
-use mathlib.Core.Path.{◌≡◌, refl}
+use Prim.Native.Nat.{◌-◌}
+use mathlib.Core.Path.{refl}
 use mathlib.Core.Bool.{true}
 use native.Mathlib.Omega.{arith}
-use borrow.Author.Rules.{rules}
 use Rattle.quantities.proofs.Tested.{passed, failed}
 use Rattle.ranges.proofs.UpTo.{up_goes, up_stops, up_done}
 use Rattle.clauses.specs.Tests.{soon_test}

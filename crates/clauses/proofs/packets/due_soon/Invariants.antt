@@ -1,14 +1,11 @@
 -- The invariant: the test of the transits from the i-th on is the test of all. The measure is what is left. Assumes nothing.
 use Prim.Native.Nat.{◌-◌, ◌≤◌}
-use mathlib.Core.Path.{◌≡◌, ap, ◌∙◌}
-use native.Mathlib.Omega.{arith}
-use borrow.Author.Rules.{rules}
+use mathlib.Core.Path.{◌≡◌}
 use lib.Ieee.{le}
 use Rattle.link.specs.Ring.{items_from}
 use Rattle.remy.specs.State.{no_transit}
 use Rattle.remy.specs.Fit.{every}
-use Rattle.clauses.specs.Tests.{soon_on_test}
-use Rattle.clauses.proofs.Turns.{rest, rest_all, every_goes, every-stops, every-done}
+use Rattle.clauses.proofs.Turns.{rest}
 use Rattle.clauses.proofs.packets.due_soon.Given as goal
 
 abbrev pub invariant-loop-i : goal.invariant-loop-i

@@ -1,5 +1,4 @@
 -- Each return rewrites by the tests that led there. Assumes nothing.
-use borrow.Author.Rules.{rules}
 use Rattle.quantities.proofs.Tested.{passed, failed}
 use Rattle.clauses.specs.Tests.{line_packets_test}
 use Rattle.clauses.proofs.packets.line_packets_fit.Goals as goal

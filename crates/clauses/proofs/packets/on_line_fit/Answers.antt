@@ -1,16 +1,13 @@
 -- The invariant of each loop: the test of the transits from the i-th on is the test of all, and the due times from the j-th on fall exactly if some fall. The
 -- measures are what is left. Assumes nothing.
-use Prim.Native.Nat.{◌-◌, ◌≤◌}
+use Prim.Native.Nat.{◌-◌}
 use mathlib.Core.Path.{◌≡◌, sym, ap, ◌∙◌}
 use mathlib.Core.Bool.{true}
 use native.Mathlib.Omega.{arith}
-use borrow.Author.Tests.{not-true, not-false}
-use borrow.Author.Rules.{rules}
-use Rattle.link.specs.Ring.{items_from}
 use Rattle.remy.specs.State.{no_transit}
 use Rattle.remy.specs.Fit.{every, rising}
 use Rattle.clauses.specs.Tests.{transit_test, on_line_test, due_test}
-use Rattle.clauses.proofs.Turns.{rest, rest_all, every_goes, every-stops, every-done, rising_goes, rising-stops, rising-done}
+use Rattle.clauses.proofs.Turns.{rest_all, every_goes, every-stops, every-done, rising_goes, rising-stops, rising-done}
 use Rattle.clauses.proofs.Members.{packet_unknown, packet_is, first-fails, first_passes}
 use Rattle.clauses.proofs.packets.on_line_fit.Goals as goal
 use Rattle.clauses.proofs.packets.on_line_fit.Goals.{After-loop-i}

@@ -1,6 +1,5 @@
 -- Each return rewrites by the tests that led there. Assumes nothing.
 use borrow.Author.Tests.{le-leb, lt-leb}
-use borrow.Author.Rules.{rules}
 use Rattle.clauses.specs.Tests.{sent_test}
 use Rattle.clauses.proofs.packets.sent_fit.Goals as goal
 

@@ -1,15 +1,11 @@
 -- The invariant: the test of the packets from the i-th on is the test of all, and the sum is that of the bits so far. The measure is what is left. Assumes nothing.
 use Prim.Native.Nat.{◌-◌, ◌≤◌}
-use mathlib.Core.Path.{◌≡◌, sym, ap, ◌∙◌}
-use native.Mathlib.Omega.{arith}
-use borrow.Author.Tests.{eq-eqb, ne_eqb, not-true, not-false}
-use borrow.Author.Rules.{rules}
+use mathlib.Core.Path.{◌≡◌}
 use Rattle.link.specs.Ring.{items_from}
 use Rattle.remy.specs.State.{no_waiting}
 use Rattle.remy.specs.Fit.{every}
-use Rattle.clauses.specs.Tests.{waits_test, waiting_test}
-use Rattle.clauses.proofs.Turns.{rest, rest_all, every_goes, every-stops, every-done, Summed, summed-none, summed-one, summed-all}
-use Rattle.clauses.proofs.Members.{packet_unknown, packet_is, first-fails, first_passes}
+use Rattle.clauses.specs.Tests.{waits_test}
+use Rattle.clauses.proofs.Turns.{rest, Summed}
 use Rattle.clauses.proofs.packets.waiting_fit.Given as goal
 
 abbrev pub invariant-loop-i : goal.invariant-loop-i

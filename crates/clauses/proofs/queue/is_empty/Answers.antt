@@ -1,10 +1,7 @@
 -- The invariant: nothing is queued in the first k places. The measure is what is left. Assumes nothing.
-use Prim.Native.Nat.{◌-◌, ◌≤◌}
-use mathlib.Core.Path.{◌≡◌}
+use Prim.Native.Nat.{◌-◌}
 use mathlib.Core.Bool.{true}
 use native.Mathlib.Omega.{arith}
-use borrow.Author.Rules.{rules}
-use Rattle.clauses.specs.Tests.{empty_test}
 use Rattle.clauses.proofs.Members.{empty-none, empty_goes, empty-stops, empty-done}
 use Rattle.clauses.proofs.queue.is_empty.Goals as goal
 

@@ -2,10 +2,7 @@
 use Prim.Native.Nat.{◌-◌, ◌≤◌}
 use mathlib.Core.Path.{◌≡◌}
 use mathlib.Core.Bool.{true}
-use native.Mathlib.Omega.{arith}
-use borrow.Author.Rules.{rules}
 use Rattle.clauses.specs.Tests.{empty_test}
-use Rattle.clauses.proofs.Members.{empty-none, empty_goes, empty-stops, empty-done}
 use Rattle.clauses.proofs.queue.is_empty.Given as goal
 
 abbrev pub invariant-loop-k : goal.invariant-loop-k

@@ -1,5 +1,4 @@
 -- Each arm rewrites by its case. Assumes nothing.
-use borrow.Author.Rules.{rules}
 use Rattle.clauses.proofs.queue.is_next.Goals as goal
 
 pub returns-in-Part : goal.returns-in-Part

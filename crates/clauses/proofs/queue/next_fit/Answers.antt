@@ -1,5 +1,4 @@
 -- Each arm rewrites by its case. Assumes nothing.
-use borrow.Author.Rules.{rules}
 use Rattle.clauses.specs.Tests.{next_test}
 use Rattle.clauses.proofs.Members.{part_seated}
 use Rattle.clauses.proofs.queue.next_fit.Goals as goal

@@ -1,5 +1,4 @@
 -- Each return rewrites by the tests that led there. Assumes nothing.
-use borrow.Author.Rules.{rules}
 use Rattle.quantities.proofs.Tested.{passed, failed}
 use Rattle.clauses.specs.Tests.{place_test}
 use Rattle.clauses.proofs.queue.place_fit.Goals as goal

@@ -1,11 +1,7 @@
 -- The invariant: the first k places are fit. The measure is what is left. Assumes nothing.
-use Prim.Native.Nat.{◌-◌, ◌≤◌}
-use mathlib.Core.Path.{◌≡◌}
+use Prim.Native.Nat.{◌-◌}
 use mathlib.Core.Bool.{true}
 use native.Mathlib.Omega.{arith}
-use borrow.Author.Tests.{not-true, not-false}
-use borrow.Author.Rules.{rules}
-use Rattle.clauses.specs.Tests.{places_test}
 use Rattle.clauses.proofs.Members.{part_seated, places-none, places_goes, places-stops, places-done}
 use Rattle.clauses.proofs.queue.places_fit.Goals as goal
 

@@ -1,5 +1,4 @@
 -- Each return rewrites by the case and the test that led there. Assumes nothing.
-use borrow.Author.Rules.{rules}
 use Rattle.quantities.proofs.Tested.{passed, failed}
 use Rattle.clauses.specs.Tests.{queued_test}
 use Rattle.clauses.proofs.queue.queued_fit.Goals as goal

@@ -1,5 +1,4 @@
 -- Each arm rewrites by its cases. Assumes nothing.
-use borrow.Author.Rules.{rules}
 use Rattle.clauses.proofs.queue.same_time.Goals as goal
 
 pub returns-in-Some-b-2 : goal.returns-in-Some-b-2

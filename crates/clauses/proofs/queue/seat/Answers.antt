@@ -5,7 +5,6 @@ use mathlib.Core.Bool.{Bool, true, false, ◌&&◌, cond}
 use native.Mathlib.Omega.{arith}
 use lib.Dec.{eqb}
 use borrow.Author.Tests.{eq-eqb, le-ltb, lt-ltb, ne_eqb}
-use borrow.Author.Rules.{rules}
 use Rattle.remy.specs.State.{link, bouncer, sender, toggler, nobody, role_of}
 use Rattle.clauses.specs.Tests.{seat_of}
 use Rattle.clauses.proofs.queue.seat.Goals as goal

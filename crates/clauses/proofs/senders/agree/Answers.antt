@@ -1,5 +1,4 @@
 -- Each return rewrites by the test that led there. Assumes nothing.
-use borrow.Author.Rules.{rules}
 use Rattle.quantities.proofs.Tested.{passed, failed}
 use Rattle.clauses.specs.Tests.{agree_test}
 use Rattle.clauses.proofs.senders.agree.Goals as goal

@@ -1,6 +1,5 @@
 -- Each return rewrites by the tests that led there. Assumes nothing.
 use borrow.Author.Tests.{le-leb, lt-leb}
-use borrow.Author.Rules.{rules}
 use Rattle.quantities.proofs.Tested.{passed, failed}
 use Rattle.clauses.specs.Tests.{enabled_test}
 use Rattle.clauses.proofs.senders.enabled_fit.Goals as goal

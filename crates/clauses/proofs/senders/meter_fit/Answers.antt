@@ -32,7 +32,6 @@ returns-then-not-in_range-2 c =
 
 -- a product of numbers below their bounds
 product-fits : (a b m n : ℕ) → a ≤ m → b ≤ n → m * n < 2 ^ 64 → a * b < 2 ^ 64
-
 product-fits a b m n h k f = let p : a * b ≤ m * n = mul-le-mul h k in omega arith
 
 pub overflow_mul-result : goal.overflow_mul-result

@@ -1,7 +1,6 @@
 -- What the tests so far show, at each point where one passed; each return rewrites by that and by its own test. Assumes nothing.
 use mathlib.Core.Path.{◌≡◌}
 use mathlib.Core.Bool.{Bool, true, ◌&&◌}
-use borrow.Author.Rules.{rules}
 use Rattle.quantities.proofs.Tested.{passed, failed}
 use Rattle.remy.specs.Fit.{held}
 use Rattle.remy.proofs.Facts.{both_i}

@@ -1,12 +1,7 @@
 -- The invariant: the first i senders are fit. The measure is what is left. Assumes nothing.
-use Prim.Native.Nat.{◌-◌, ◌≤◌}
-use mathlib.Core.Path.{◌≡◌}
+use Prim.Native.Nat.{◌-◌}
 use mathlib.Core.Bool.{true}
 use native.Mathlib.Omega.{arith}
-use lib.ListN.{get_or}
-use borrow.Author.Tests.{not-true, not-false}
-use borrow.Author.Rules.{rules}
-use Rattle.clauses.specs.Tests.{senders_test}
 use Rattle.clauses.proofs.Members.{senders-none, senders_goes, senders-stops, senders-done}
 use Rattle.clauses.proofs.senders.senders_fit.Goals as goal
 

@@ -2,12 +2,8 @@
 use Prim.Native.Nat.{◌-◌, ◌≤◌}
 use mathlib.Core.Path.{◌≡◌}
 use mathlib.Core.Bool.{true}
-use native.Mathlib.Omega.{arith}
 use lib.ListN.{get_or}
-use borrow.Author.Tests.{not-true, not-false}
-use borrow.Author.Rules.{rules}
 use Rattle.clauses.specs.Tests.{senders_test}
-use Rattle.clauses.proofs.Members.{senders-none, senders_goes, senders-stops, senders-done}
 use Rattle.clauses.proofs.senders.senders_fit.Given as goal
 
 abbrev pub invariant-loop-i : goal.invariant-loop-i

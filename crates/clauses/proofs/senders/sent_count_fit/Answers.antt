@@ -1,6 +1,5 @@
 -- Each return rewrites by the test that led there. Assumes nothing.
 use borrow.Author.Tests.{le-leb, lt-leb}
-use borrow.Author.Rules.{rules}
 use Rattle.clauses.specs.Tests.{sent_count_test}
 use Rattle.clauses.proofs.senders.sent_count_fit.Goals as goal
 

@@ -1,5 +1,4 @@
 -- Each arm rewrites by its case. Assumes nothing.
-use borrow.Author.Rules.{rules}
 use Rattle.clauses.specs.Tests.{start_test}
 use Rattle.clauses.proofs.senders.start_fit.Goals as goal
 

@@ -1,5 +1,4 @@
 -- Each arm rewrites by its case. Assumes nothing.
-use borrow.Author.Rules.{rules}
 use Rattle.clauses.specs.Tests.{state_test}
 use Rattle.clauses.proofs.senders.state_fit.Goals as goal
 

@@ -1,5 +1,4 @@
 -- Each return rewrites by the test that led there. Assumes nothing.
-use borrow.Author.Rules.{rules}
 use Rattle.clauses.specs.Tests.{words_test}
 use Rattle.clauses.proofs.senders.words_fit.Goals as goal
 

@@ -1,5 +1,4 @@
 -- The fit test, then the test of the due times. Assumes nothing.
-use borrow.Author.Rules.{rules}
 use Rattle.ranges.proofs.Bounds.{counted_rings}
 use Rattle.fitness.proofs.Kept.{not_steady, rings_bounds, steady_is}
 use Rattle.fitness.proofs.soon.is_steady.Goals as goal

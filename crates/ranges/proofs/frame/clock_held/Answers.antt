@@ -1,6 +1,5 @@
 -- Each return rewrites by the test and the case that led there. Assumes nothing.
 use lib.Ieee.{of_bits}
-use borrow.Author.Rules.{rules}
 use Rattle.ranges.specs.Frame.{clock_held}
 use Rattle.ranges.proofs.frame.clock_held.Goals as goal
 

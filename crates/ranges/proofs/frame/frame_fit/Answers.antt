@@ -4,7 +4,6 @@ use mathlib.Core.Bool.{true}
 use lib.Ieee.{of_bits}
 use lib.Dec.{eqb}
 use borrow.Author.Tests.{eq-eqb, ne_eqb}
-use borrow.Author.Rules.{rules}
 use Rattle.quantities.proofs.Tested.{passed, failed}
 use Rattle.remy.specs.Network.{network_stop}
 use Rattle.remy.specs.State.{has_back}

@@ -1,5 +1,4 @@
 -- Each return rewrites by the tests that led there. Assumes nothing.
-use borrow.Author.Rules.{rules}
 use Rattle.quantities.proofs.Tested.{passed, failed}
 use Rattle.ranges.specs.Frame.{line_test}
 use Rattle.ranges.proofs.frame.line_fit.Goals as goal

@@ -1,12 +1,8 @@
 -- The invariant: the first l lines are fit. The measure is what is left. Assumes nothing.
 use Prim.Native.Nat.{◌-◌, ◌≤◌}
-use mathlib.Core.Path.{◌≡◌, refl}
+use mathlib.Core.Path.{◌≡◌}
 use mathlib.Core.Bool.{true}
-use native.Mathlib.Omega.{arith}
-use borrow.Author.Rules.{rules}
-use Rattle.quantities.proofs.Tested.{passed, failed}
 use Rattle.ranges.specs.Frame.{lines_test}
-use Rattle.ranges.proofs.UpTo.{up_goes, up_stops, up_done}
 use Rattle.ranges.proofs.frame.lines_fit.Given as goal
 
 abbrev pub invariant-loop-l : goal.invariant-loop-l

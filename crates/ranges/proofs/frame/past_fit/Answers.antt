@@ -1,6 +1,5 @@
 -- Each return rewrites by the test that led there. Assumes nothing.
 use lib.Ieee.{of_bits}
-use borrow.Author.Rules.{rules}
 use Rattle.quantities.proofs.Tested.{passed, failed}
 use Rattle.ranges.specs.Frame.{past_test}
 use Rattle.ranges.proofs.frame.past_fit.Goals as goal

@@ -1,7 +1,6 @@
 -- A line after the first has the values of the return line. Assumes nothing.
 use Prim.Native.Nat.{ℕ, zero, suc}
 use mathlib.Core.Path.{◌≡◌, refl}
-use borrow.Author.Rules.{rules}
 use Rattle.link.specs.declared.link.LineValues.{LineValues}
 use Rattle.remy.specs.declared.network.ReturnLine.{ReturnLine}
 use Rattle.remy.specs.State.{back_values}

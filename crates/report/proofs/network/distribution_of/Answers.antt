@@ -1,5 +1,4 @@
 -- By cases. Assumes nothing.
-use borrow.Author.Rules.{rules}
 use Rattle.report.proofs.network.distribution_of.Goals as goal
 
 pub returns-in-Always : goal.returns-in-Always

@@ -1,5 +1,4 @@
 -- Field by field. Assumes nothing.
-use borrow.Author.Rules.{rules}
 use Rattle.report.proofs.network.network_of.Goals as goal
 
 pub returns : goal.returns

@@ -1,5 +1,4 @@
 -- By cases. Assumes nothing.
-use borrow.Author.Rules.{rules}
 use Rattle.report.proofs.network.policy_of.Goals as goal
 
 pub returns-in-Held : goal.returns-in-Held

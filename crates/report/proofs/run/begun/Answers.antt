@@ -1,6 +1,5 @@
 -- The build's number gives the first stage. Assumes nothing.
 use Rattle.report.specs.Report.{begun_of}
-use borrow.Author.Rules.{rules}
 use Rattle.report.proofs.run.begun.Goals as goal
 
 pub returns : goal.returns

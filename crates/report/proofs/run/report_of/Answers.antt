@@ -2,7 +2,6 @@
 use mathlib.Core.List.{[], ◌∷◌}
 use mathlib.Core.Path.{◌≡◌, refl, sym, ◌∙◌}
 use Rattle.report.proofs.Texts.{answered-given, answered-refused, for_text}
-use borrow.Author.Rules.{rules}
 use Rattle.notation.specs.InPlace.{NoBytes, calls_of}
 use Rattle.report.proofs.run.report_of.Code as code
 use Rattle.report.proofs.run.report_of.Goals as goal

@@ -1,6 +1,5 @@
 -- Each arm rewrites by its cases. Assumes nothing.
 use Rattle.toggler.specs.Queue.{sooner}
-use borrow.Author.Rules.{rules}
 use Rattle.toggler.proofs.tick_queue.is_sooner.Goals as goal
 
 pub returns-in-None : goal.returns-in-None

@@ -2,9 +2,8 @@
 use mathlib.Core.Path.{◌≡◌, refl, sym, ◌∙◌}
 use Prim.Native.Nat.{◌-◌, ◌≤◌, ◌<◌}
 use native.Mathlib.Omega.{arith}
-use borrow.Author.Rules.{rules}
-use lib.ListN.{length, drop}
-use Rattle.toggler.specs.Queue.{pick_from, pick_of}
+use lib.ListN.{length}
+use Rattle.toggler.specs.Queue.{pick_of}
 use Rattle.toggler.proofs.Pick.{takes, keeps, none-past, finished}
 use Rattle.toggler.proofs.tick_queue.pick.Goals as goal
 

@@ -1,11 +1,8 @@
 -- The invariant: the pick over what is left, from the best so far, is the whole pick. The measure is what is left. Assumes nothing.
-use mathlib.Core.Path.{◌≡◌, refl, sym, ◌∙◌}
-use Prim.Native.Nat.{◌-◌, ◌≤◌, ◌<◌}
-use native.Mathlib.Omega.{arith}
-use borrow.Author.Rules.{rules}
-use lib.ListN.{length, drop}
+use mathlib.Core.Path.{◌≡◌}
+use Prim.Native.Nat.{◌-◌}
+use lib.ListN.{drop}
 use Rattle.toggler.specs.Queue.{pick_from, pick_of}
-use Rattle.toggler.proofs.Pick.{takes, keeps, none-past, finished}
 use Rattle.toggler.proofs.tick_queue.pick.Given as goal
 
 abbrev pub invariant-loop-i : goal.invariant-loop-i

@@ -1,7 +1,6 @@
 -- Each arm rewrites by its case. Assumes nothing.
 use Rattle.toggler.specs.Toggler.{new_toggler}
 use lib.Ieee.{of_bits}
-use borrow.Author.Rules.{rules}
 use Rattle.toggler.proofs.toggler.create.Goals as goal
 
 pub returns-in-Positive : goal.returns-in-Positive

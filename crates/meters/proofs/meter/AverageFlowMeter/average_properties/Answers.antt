@@ -2,7 +2,6 @@
 use Rattle.quantities.proofs.Tested.{passed, failed}
 use Rattle.meters.specs.Meter.{read_of}
 use lib.Ieee.{of_bits}
-use borrow.Author.Rules.{rules}
 use Rattle.meters.proofs.meter.AverageFlowMeter.average_properties.Goals as goal
 
 pub returns-then-enabled : goal.returns-then-enabled

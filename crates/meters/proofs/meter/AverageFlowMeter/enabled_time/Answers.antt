@@ -1,7 +1,6 @@
 -- Each arm rewrites by its case. Assumes nothing.
 use Rattle.meters.specs.Meter.{enabled_time}
 use lib.Ieee.{of_bits}
-use borrow.Author.Rules.{rules}
 use Rattle.meters.proofs.meter.AverageFlowMeter.enabled_time.Goals as goal
 
 pub returns-in-None : goal.returns-in-None

@@ -3,7 +3,6 @@ use borrow.Author.Tests.{le-leb, lt-leb}
 use Rattle.quantities.proofs.Tested.{passed, failed}
 use Rattle.meters.specs.Meter.{meter_fit}
 use lib.Ieee.{of_bits}
-use borrow.Author.Rules.{rules}
 use Rattle.meters.proofs.meter.AverageFlowMeter.fit.Goals as goal
 
 pub returns-then-records-gt16777216 : goal.returns-then-records-gt16777216

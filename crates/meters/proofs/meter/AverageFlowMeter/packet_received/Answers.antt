@@ -1,9 +1,8 @@
 -- Each return rewrites by the tests that led there. Assumes nothing.
-use borrow.Author.Tests.{le-leb, le-ltb, lt-leb, lt-ltb, not-false}
+use borrow.Author.Tests.{le-leb, le-ltb, lt-leb, lt-ltb}
 use Rattle.quantities.proofs.Tested.{passed, failed}
 use Rattle.meters.specs.Meter.{recorded_of}
 use lib.Ieee.{of_bits}
-use borrow.Author.Rules.{rules}
 use mathlib.Core.Path.{sym, ◌∙◌}
 use native.Mathlib.Omega.{arith}
 use Rattle.meters.proofs.Fit.{ready-meter}

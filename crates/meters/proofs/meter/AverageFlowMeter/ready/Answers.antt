@@ -2,7 +2,6 @@
 use Rattle.quantities.proofs.Tested.{passed, failed}
 use Rattle.meters.specs.Meter.{ready}
 use lib.Ieee.{of_bits}
-use borrow.Author.Rules.{rules}
 use Rattle.meters.proofs.meter.AverageFlowMeter.ready.Goals as goal
 
 pub returns-then-not-fit : goal.returns-then-not-fit

@@ -1,10 +1,8 @@
 -- Each return rewrites by the tests and the case that led there. Assumes nothing.
 use mathlib.Core.Path.{◌≡◌}
 use mathlib.Core.Bool.{true}
-use borrow.Author.Tests.{not-false, not-true}
 use Rattle.quantities.proofs.Tested.{passed, failed}
 use Rattle.meters.specs.Meter.{switched_of}
-use borrow.Author.Rules.{rules}
 use Rattle.meters.proofs.meter.AverageFlowMeter.switch.Goals as goal
 
 pub returns-then-not-ready : goal.returns-then-not-ready

@@ -1,7 +1,6 @@
 -- Each return rewrites by the tests that led there. Assumes nothing.
 use borrow.Author.Tests.{le-leb, lt-leb}
 use Rattle.sender.specs.Sender.{tick_send}
-use borrow.Author.Rules.{rules}
 use Rattle.sender.proofs.lossy.Enabled.tick_send.Goals as goal
 
 pub returns-then-packets_sent-ge16777216 : goal.returns-then-packets_sent-ge16777216

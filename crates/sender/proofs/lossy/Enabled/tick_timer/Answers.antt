@@ -1,6 +1,5 @@
 -- Each arm rewrites by its case. Assumes nothing.
 use Rattle.sender.specs.Sender.{tick_timer}
-use borrow.Author.Rules.{rules}
 use Rattle.sender.proofs.lossy.Enabled.tick_timer.Goals as goal
 
 pub returns-in-Held : goal.returns-in-Held

@@ -1,6 +1,5 @@
 -- Each arm rewrites by its case. Assumes nothing.
 use Rattle.sender.specs.Sender.{timer_due}
-use borrow.Author.Rules.{rules}
 use Rattle.sender.proofs.lossy.Enabled.timer_due.Goals as goal
 
 pub returns-in-None : goal.returns-in-None

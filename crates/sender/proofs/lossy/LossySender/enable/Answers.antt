@@ -1,6 +1,5 @@
 -- The record, with the first window. Assumes nothing.
 use Rattle.sender.specs.Sender.{enabled_of}
-use borrow.Author.Rules.{rules}
 use Rattle.sender.proofs.lossy.LossySender.enable.Goals as goal
 
 pub returns : goal.returns

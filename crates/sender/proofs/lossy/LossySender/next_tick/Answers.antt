@@ -1,6 +1,5 @@
 -- Each return rewrites by its case and test. Assumes nothing.
 use Rattle.sender.specs.Sender.{sender_next}
-use borrow.Author.Rules.{rules}
 use Rattle.sender.proofs.lossy.LossySender.next_tick.Goals as goal
 
 pub returns-then-may_send : goal.returns-then-may_send

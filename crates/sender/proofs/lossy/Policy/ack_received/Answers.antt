@@ -1,6 +1,5 @@
 -- Each arm rewrites by its case. Assumes nothing.
 use Rattle.sender.specs.Sender.{window_counted}
-use borrow.Author.Rules.{rules}
 use Rattle.sender.proofs.lossy.Policy.ack_received.Goals as goal
 
 pub returns-in-Held : goal.returns-in-Held

@@ -1,6 +1,5 @@
 -- Each arm rewrites by its case. Assumes nothing.
 use Rattle.sender.specs.Sender.{first_window}
-use borrow.Author.Rules.{rules}
 use Rattle.sender.proofs.lossy.Policy.initial_cwnd.Goals as goal
 
 pub returns-in-Held : goal.returns-in-Held

@@ -5,7 +5,6 @@ use Rattle.quantities.specs.declared.time.OptionTime.TheVariants.{Some}
 use Rattle.sender.specs.declared.lossy.Policy.{Policy}
 use Rattle.sender.specs.declared.lossy.Policy.TheVariants.{Held, Grown, Timed}
 use Rattle.sender.specs.Sender.{timer_sent}
-use borrow.Author.Rules.{rules}
 use Rattle.sender.proofs.lossy.Policy.timer_sent.Goals as goal
 
 held_stays : (policy : Policy) (t clock : Time) → timer_sent policy (Some t) clock ≡ Some t

@@ -1,6 +1,5 @@
 -- Each return rewrites by the cases that led there. Assumes nothing.
 use Rattle.toggler.specs.Toggler.{toggle_of}
-use borrow.Author.Rules.{rules}
 use Rattle.toggler.proofs.toggler.Toggler.toggle.Goals as goal
 
 pub returns-in_default : goal.returns-in_default
