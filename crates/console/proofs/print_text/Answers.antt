@@ -10,6 +10,9 @@ use Rattle.notation.specs.InPlace.{NoBytes, calls_of}
 use Rattle.console.proofs.print_text.Code as code
 use Rattle.console.proofs.print_text.Goals as goal
 
+pub print-requires : goal.print-requires
+print-requires c = text_few _ c.report_of.result c.report_of.ensures
+
 in_place : NoBytes code.function
 in_place = refl
 
