@@ -1,0 +1,7 @@
+-- As many zeros as are written.
+use Rattle.std.proofs.Common.{sym, ℕ}
+use Rattle.std.proofs.lemmas.List.{length-replicate}
+use Rattle.held.proofs.buffer.Goals as goal
+
+pub returns : goal.returns
+returns c = sym (length-replicate {0} {A = ℕ} 524288 0)
