@@ -1,5 +1,4 @@
 -- The records, and the end where all of them had room. Assumes nothing.
-use mathlib.Core.List.{[]}
 use Rattle.filling.proofs.Ending.{run_ends, run_waits}
 use Rattle.filling.proofs.put_run.Goals as goal
 

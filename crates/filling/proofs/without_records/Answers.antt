@@ -1,6 +1,5 @@
 -- By the stage of the report. Assumes nothing.
 use Rattle.filling.proofs.Ending.{ticks-run, no_ticks}
-use mathlib.Core.List.{[]}
 use Rattle.filling.proofs.without_records.Goals as goal
 
 pub returns-in-Ticks : goal.returns-in-Ticks

@@ -1,6 +1,5 @@
 -- `parts::make` meets its contract. The invariant: the parts that are left to make, from those made so far, give the parts of the whole. The measure is what is left.
 -- Assumes nothing.
-use Prim.Native.Nat.{◌-◌}
 use mathlib.Core.Path.{◌∙◌}
 use native.Mathlib.Omega.{arith}
 use Rattle.parts.proofs.Making.{all_made, goes_on, stops, begins}

@@ -1,6 +1,6 @@
 -- `builder::queue::queue_all` meets its contract. The invariant: the places filled so far, and the times of the parts that are left, are the times of all parts. The measure is what is left.
 -- Assumes nothing.
-use Prim.Native.Nat.{◌+◌, ◌-◌, ◌≤◌}
+use Prim.Native.Nat.{◌-◌, ◌≤◌}
 use mathlib.Core.Path.{◌≡◌}
 use mathlib.Core.List.{◌++◌}
 use lib.ListN.{length, take}

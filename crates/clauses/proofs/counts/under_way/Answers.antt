@@ -1,5 +1,4 @@
 -- The invariant: the counts of the first l lines, and the times of their links. The measure is what is left. Assumes nothing.
-use Prim.Native.Nat.{◌-◌}
 use mathlib.Core.Path.{◌∙◌}
 use native.Mathlib.Omega.{arith}
 use lib.ListN.{length-set, length-replicate}

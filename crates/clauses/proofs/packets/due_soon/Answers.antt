@@ -1,5 +1,4 @@
 -- The invariant: the test of the transits from the i-th on is the test of all. The measure is what is left. Assumes nothing.
-use Prim.Native.Nat.{◌-◌}
 use mathlib.Core.Path.{ap, ◌∙◌}
 use native.Mathlib.Omega.{arith}
 use lib.Ieee.{le}

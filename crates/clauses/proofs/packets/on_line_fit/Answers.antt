@@ -1,6 +1,5 @@
 -- The invariant of each loop: the test of the transits from the i-th on is the test of all, and the due times from the j-th on fall exactly if some fall. The
 -- measures are what is left. Assumes nothing.
-use Prim.Native.Nat.{◌-◌}
 use mathlib.Core.Path.{◌≡◌, sym, ap, ◌∙◌}
 use mathlib.Core.Bool.{true}
 use native.Mathlib.Omega.{arith}

@@ -1,5 +1,4 @@
 -- The invariant: the test of the packets from the i-th on is the test of all, and the sum is that of the bits so far. The measure is what is left. Assumes nothing.
-use Prim.Native.Nat.{◌-◌}
 use mathlib.Core.Path.{sym, ap, ◌∙◌}
 use native.Mathlib.Omega.{arith}
 use borrow.Author.Tests.{eq-eqb, ne_eqb}

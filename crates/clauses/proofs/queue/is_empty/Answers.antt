@@ -1,5 +1,4 @@
 -- The invariant: nothing is queued in the first k places. The measure is what is left. Assumes nothing.
-use Prim.Native.Nat.{◌-◌}
 use mathlib.Core.Bool.{true}
 use native.Mathlib.Omega.{arith}
 use Rattle.clauses.proofs.Members.{empty-none, empty_goes, empty-stops, empty-done}

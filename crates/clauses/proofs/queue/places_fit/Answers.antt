@@ -1,5 +1,4 @@
 -- The invariant: the first k places are fit. The measure is what is left. Assumes nothing.
-use Prim.Native.Nat.{◌-◌}
 use mathlib.Core.Bool.{true}
 use native.Mathlib.Omega.{arith}
 use Rattle.clauses.proofs.Members.{part_seated, places-none, places_goes, places-stops, places-done}

@@ -1,5 +1,4 @@
 -- The invariant: the first i senders are fit. The measure is what is left. Assumes nothing.
-use Prim.Native.Nat.{◌-◌}
 use mathlib.Core.Bool.{true}
 use native.Mathlib.Omega.{arith}
 use Rattle.clauses.proofs.Members.{senders-none, senders_goes, senders-stops, senders-done}

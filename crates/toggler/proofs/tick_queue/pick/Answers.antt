@@ -1,6 +1,6 @@
 -- The invariant: the pick over what is left, from the best so far, is the whole pick. The measure is what is left. Assumes nothing.
 use mathlib.Core.Path.{◌≡◌, refl, sym, ◌∙◌}
-use Prim.Native.Nat.{◌-◌, ◌≤◌, ◌<◌}
+use Prim.Native.Nat.{◌≤◌, ◌<◌}
 use native.Mathlib.Omega.{arith}
 use lib.ListN.{length}
 use Rattle.toggler.specs.Queue.{pick_of}
