@@ -1,5 +1,5 @@
 -- What is filled is a turn. Assumes nothing.
-use Rattle.std.proofs.Common.{◌≡◌, ℕ, length, sym, ◌∙◌}
+use Rattle.std.proofs.Common.{ℕ, sym, ◌∙◌}
 use Rattle.std.proofs.lemmas.List.{length-replicate}
 use Rattle.console.proofs.Turns.{turn_is}
 use Rattle.console.proofs.next_turn.Goals as goal

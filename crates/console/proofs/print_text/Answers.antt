@@ -1,11 +1,6 @@
 -- A text's report has no more lines than `print` has turns. Assumes nothing.
-use Rattle.std.proofs.Common.{◌≡◌, refl, [], ◌∷◌, subst, length}
-use mathlib.Core.List.{flatten}
-use Rattle.report.specs.declared.run.Report.{Report}
-use Rattle.report.specs.Report.{left_of}
+use Rattle.std.proofs.Common.{◌≡◌, refl, [], ◌∷◌}
 use Rattle.filling.proofs.Few.{text_few}
-use Rattle.report.proofs.Texts.{for_each}
-use Rattle.console.specs.Turns.{HandedIs}
 use Rattle.notation.specs.InPlace.{NoBytes, calls_of}
 use Rattle.console.proofs.print_text.Code as code
 use Rattle.console.proofs.print_text.Goals as goal
