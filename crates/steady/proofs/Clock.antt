@@ -78,7 +78,7 @@ old-held s ts =
     record {
       free = λ l h. inl refl;
       due = λ l h t m. inl m;
-      timer = λ i h. any_self (λ t. Memᴰ t ts) (timer_of (sender_at s i).state);
+      timer = λ i h. any_self _ (timer_of (sender_at s i).state);
       toggle = λ i h. inl refl;
       queued = λ j h. any_unit (queued_at s j);
     }
