@@ -9,6 +9,8 @@ ghost use Rattle.meters.specs.declared.meter.Metered.{Metered};
 use meters::{AverageFlowMeter, Metered};
 
 // Changes a lent meter as the method does that takes it by value, and answers the method's number.
+//
+// A law, and no entry point: the caller shows that the method may be called.
 pub fn thin<P, Q, F: FnOnce(AverageFlowMeter, P, Q) -> Metered>(
     meter: &mut AverageFlowMeter,
     x: P,
@@ -26,6 +28,8 @@ pub fn thin<P, Q, F: FnOnce(AverageFlowMeter, P, Q) -> Metered>(
 }
 
 // Lends a local that holds the meter, and answers the number with the meter that the form leaves there.
+//
+// A law, and no entry point: the caller shows that the form may be called.
 pub fn lending<P, Q, F: FnOnce(&mut AverageFlowMeter, P, Q) -> u32>(
     meter: AverageFlowMeter,
     x: P,
