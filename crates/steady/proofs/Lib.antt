@@ -3,6 +3,7 @@ pub mod Facts
 pub mod Lists
 pub mod Ahead
 pub mod Clauses
+pub mod Soon
 pub mod Open
 pub mod Close
 pub mod Times

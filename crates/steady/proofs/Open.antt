@@ -41,6 +41,7 @@ use Rattle.remy.proofs.Lists.{All, all_unmapped}
 use Rattle.remy.proofs.Front.{rings}
 use Rattle.remy.specs.HeldTimes.{Full}
 use Rattle.steady.specs.Steady.{due_soon, soon_fit, steady}
+use Rattle.steady.proofs.Soon.{soon_at}
 use Rattle.steady.proofs.Facts.{NotAfter, Held, Past, PastIfAny, PacketOk, WaitsOk, TransitOk, TimerIfAny, StateOk, MeterOk, PartAt, LineAt, sent_of, all_under_way, Body, QueueBut, Between}
 use Rattle.steady.proofs.Clauses.{HeldTimes, held-times, PastTimes, past_times}
 use Rattle.steady.proofs.Lists.{all_with, every-all}
@@ -320,7 +321,7 @@ module _ (s : Simulation) (j : ℕ) (fits : FitState s) (full : Full s) (next : 
               (all_with (λ x. Good x.packet) (λ x. due_soon s l x ≡ true) Sent (λ x p d. (p, d)) xs
               (all_unmapped Good (λ x. x.packet) xs
               (packets_of (on_line_packets s l) (both_r (packets l) (moving_packets l) both) (at-line l there (λ k. every sent (on_line_packets s k)) pasts.moving)))
-              (every-all (due_soon s l) xs (at-line l there (λ k. every (due_soon s k) (on_line_items s k)) soon)));
+              (every-all (due_soon s l) xs (soon_at s l there soon)));
           order = rises l there;
           free = free_held l there;
           words = not-true (all_zero (line_at s l).rng) (at-line l there (λ k. not (all_zero (line_at s k).rng)) words.link);

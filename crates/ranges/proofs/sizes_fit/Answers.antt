@@ -8,19 +8,19 @@ use Rattle.ranges.proofs.sizes_fit.Invariants.{fits}
 use Rattle.ranges.proofs.sizes_fit.Goals as goal
 
 pub returns-then-senders-gt16 : goal.returns-then-senders-gt16
-returns-then-senders-gt16 c = rw (lt-leb _ _ c.if-senders-gt16.true)
+returns-then-senders-gt16 c = rw (lt-leb c.args.senders 16 (omega arith))
 
 pub loop-i-init : goal.loop-i-init
 loop-i-init c = (omega arith, refl)
 
 pub returns-then-size-lt1 : goal.returns-then-size-lt1
 returns-then-size-lt1 c =
-    rw (le-leb _ _ c.if-senders-gt16.false)
+    rw (le-leb c.args.senders 16 (omega arith))
     (up_stops (fits c.args.bits) _ _ c.loop-i-test.true (rw (lt-leb _ _ c.if-size-lt1.true)))
 
 pub returns-then-size-gt16777216 : goal.returns-then-size-gt16777216
 returns-then-size-gt16777216 c =
-    rw (le-leb _ _ c.if-senders-gt16.false)
+    rw (le-leb c.args.senders 16 (omega arith))
     (up_stops (fits c.args.bits) _ _ c.loop-i-test.true
     (rw (le-leb _ _ c.if-size-lt1.false, lt-leb _ _ c.if-size-gt16777216.true)))
 
@@ -34,4 +34,4 @@ loop-i-preserved c =
 pub returns : goal.returns
 returns c =
     let L = c.loop-i in
-    rw (le-leb _ _ c.if-senders-gt16.false) (up_done _ _ L.i L.invariant.1 L.invariant.0 c.loop-i-test.false)
+    rw (le-leb c.args.senders 16 (omega arith)) (up_done _ _ L.i L.invariant.1 L.invariant.0 c.loop-i-test.false)
