@@ -1,11 +1,9 @@
 -- Document 01, "Quantities": `Time`, `TimeSpan`, `Information`, `InformationRate` and the operations between them. Definitions only.
 -- All but the amount of bits are doubles. Each operation is one of IEEE 754's, so it rounds once; an amount or a count becomes a double first (`as_double`).
-use Rattle.std.specs.Prelude.{ℕ, pos, Float}
+use Rattle.std.specs.Prelude.{ℕ, pos, Float, Option, Some, None}
 use Rattle.std.specs.Float.{binary64}
 use Rattle.std.specs.Float.Ieee.{add, sub, div, of_int}
 use Rattle.quantities.specs.declared.time.Time.{Time}
-use Rattle.quantities.specs.declared.time.OptionTime.{OptionTime}
-use Rattle.quantities.specs.declared.time.OptionTime.TheVariants.{None, Some}
 use Rattle.quantities.specs.declared.time_span.TimeSpan.{TimeSpan}
 use Rattle.quantities.specs.declared.information.Information.{Information}
 use Rattle.quantities.specs.declared.information_rate.InformationRate.{InformationRate}
@@ -53,7 +51,7 @@ abbrev pub latest_of : Time → Time → Time
 latest_of t u = time_of (later t.0.0 u.0.0)
 
 -- the earlier of those that are there
-abbrev pub earliest_opt_of : OptionTime → OptionTime → OptionTime
+abbrev pub earliest_opt_of : Option Time → Option Time → Option Time
 earliest_opt_of None b = b
 earliest_opt_of (Some t) None = Some t
 earliest_opt_of (Some t) (Some u) = Some (earliest_of t u)

@@ -3,39 +3,57 @@ ghost use Rattle.quantities.specs.Units.{amount_of, amount_over_rate, amount_ove
 
 use crate::information_rate::InformationRate;
 use crate::time_span::TimeSpan;
+use std::num::nearest_u64_to_f64;
+use std::ops::{Add, Div, Sub};
 
 // An amount, in bits. (The Rust counts whole bytes.)
-#[derive(Clone, Copy)]
+#[derive(Clone, Copy, PartialEq, Eq, PartialOrd, Ord)]
 pub struct Information(pub u64);
 
-impl Information {
-    // A helper for the crates above, and no entry point: the caller shows that the sum fits.
-    pub fn add(self, rhs: Information) -> Information
-        requires { self.0 + rhs.0 < 2 ^ 64 }
-        ensures { result ≡ amount_of (self.0 + rhs.0) }
-    {
+// The caller shows that the sum fits.
+impl Add for Information {
+    type Output = Information;
+
+    ghost can_add = { λ a b. a.0 + b.0 < 2 ^ 64 };
+
+    ghost add_gives = { λ a b sum. sum ≡ amount_of (a.0 + b.0) };
+
+    fn add(self, rhs: Information) -> Information {
         Information(self.0 + rhs.0)
     }
+}
 
-    // A helper for the crates above, and no entry point: the caller shows that rhs is no larger.
-    pub fn sub(self, rhs: Information) -> Information
-        requires { rhs.0 ≤ self.0 }
-        ensures { result ≡ amount_of (self.0 - rhs.0) }
-    {
+// The caller shows that what is taken off is no larger.
+impl Sub for Information {
+    type Output = Information;
+
+    ghost can_sub = { λ a b. b.0 ≤ a.0 };
+
+    ghost sub_gives = { λ a b rest. rest ≡ amount_of (a.0 - b.0) };
+
+    fn sub(self, rhs: Information) -> Information {
         Information(self.0 - rhs.0)
     }
+}
 
-    // The time that the amount takes at a rate: the bits as a double, divided.
-    pub fn div_rate(self, rhs: InformationRate) -> TimeSpan
-        ensures { result ≡ amount_over_rate self rhs }
-    {
-        TimeSpan(std::num::nearest_u64_to_f64(self.0) / rhs.0)
+// The time that the amount takes at a rate: the bits as a double, divided.
+impl Div<InformationRate> for Information {
+    type Output = TimeSpan;
+
+    ghost div_gives = { λ a rate time. time ≡ amount_over_rate a rate };
+
+    fn div(self, rhs: InformationRate) -> TimeSpan {
+        TimeSpan(nearest_u64_to_f64(self.0) / rhs.0)
     }
+}
 
-    // The rate of the amount over a span: the bits as a double, divided.
-    pub fn div_span(self, rhs: TimeSpan) -> InformationRate
-        ensures { result ≡ amount_over_span self rhs }
-    {
-        InformationRate(std::num::nearest_u64_to_f64(self.0) / rhs.0)
+// The rate of the amount over a span: the bits as a double, divided.
+impl Div<TimeSpan> for Information {
+    type Output = InformationRate;
+
+    ghost div_gives = { λ a span rate. rate ≡ amount_over_span a span };
+
+    fn div(self, rhs: TimeSpan) -> InformationRate {
+        InformationRate(nearest_u64_to_f64(self.0) / rhs.0)
     }
 }

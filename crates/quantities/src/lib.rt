@@ -1,8 +1,6 @@
 // The units of the simulation (document 01, "Quantities"): a moment, a duration, an amount in bits
 // and a rate are separate types. All but the amount are doubles, and each operation rounds once.
-// The types, files and operations follow FlowForge's src/quantities/. Rattle has no operators on
-// structs, so Rust's `a + b` is `a.add(b)`; where Rust divides an amount by two kinds of divisor,
-// the method's name says which.
+// The types, files and operators follow FlowForge's src/quantities/.
 #![tactic(auto)]
 
 pub mod float;
@@ -13,5 +11,5 @@ pub mod time_span;
 
 pub use information::Information;
 pub use information_rate::InformationRate;
-pub use time::{OptionTime, Time};
+pub use time::Time;
 pub use time_span::TimeSpan;

@@ -1,8 +1,10 @@
 ghost use Rattle.std.specs.Prelude.{◌≡◌};
 ghost use Rattle.quantities.specs.Units.{span_sum, span_over};
 
+use std::ops::{Add, Div};
+
 // A duration in seconds.
-#[derive(Clone, Copy)]
+#[derive(Clone, Copy, PartialEq, PartialOrd)]
 pub struct TimeSpan(pub f64);
 
 impl TimeSpan {
@@ -11,17 +13,25 @@ impl TimeSpan {
     pub const MAX: TimeSpan = TimeSpan(1.7976931348623157e308);
 
     pub const MIN: TimeSpan = TimeSpan(-1.7976931348623157e308);
+}
 
-    pub fn add(self, rhs: TimeSpan) -> TimeSpan
-        ensures { result ≡ span_sum self rhs }
-    {
+impl Add for TimeSpan {
+    type Output = TimeSpan;
+
+    ghost add_gives = { λ a b sum. sum ≡ span_sum a b };
+
+    fn add(self, rhs: TimeSpan) -> TimeSpan {
         TimeSpan(self.0 + rhs.0)
     }
+}
 
-    // This span over a count. The count is exact as a double.
-    pub fn div(self, count: u32) -> TimeSpan
-        ensures { result ≡ span_over self count }
-    {
-        TimeSpan(self.0 / count as f64)
+// A span over a count, which is exact as a double.
+impl Div<u32> for TimeSpan {
+    type Output = TimeSpan;
+
+    ghost div_gives = { λ span count each. each ≡ span_over span count };
+
+    fn div(self, rhs: u32) -> TimeSpan {
+        TimeSpan(self.0 / rhs as f64)
     }
 }
