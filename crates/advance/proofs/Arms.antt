@@ -1,4 +1,5 @@
 -- A turn's outcome, as the loop stores it. One variable and one equation for each call of an arm would not do more: these laws hold at the definitions themselves. Assumes nothing.
+use Rattle.std.proofs.Common.{Option, Some, None}
 use mathlib.Core.Path.{◌≡◌, refl, sym, ap, ◌∙◌}
 use mathlib.Core.Bool.{Bool, true, false, cond, true≢false}
 use Prim.Native.Nat.{ℕ, ◌+◌, ◌*◌, ◌<◌}
@@ -7,19 +8,17 @@ use lib.ListN.{length, get_or, set, length-set}
 use lib.Seq.{set-get_or, get_or-set_same, get_or-set_other}
 use lib.Dec.{eqb, leb}
 use borrow.Author.Tests.{eq-eqb}
+use Rattle.link.specs.declared.packet.Transit.{Transit}
 use Rattle.quantities.specs.declared.information.Information.{Information}
 use Rattle.quantities.specs.Units.{span_of, rate_of, amount_of}
 use Rattle.meters.specs.declared.meter.AverageFlowMeter.{AverageFlowMeter}
 use Rattle.meters.specs.declared.meter.Metered.{Metered}
 use Rattle.meters.specs.Meter.{switched_of}
 use Rattle.link.specs.declared.packet.Packet.{Packet}
-use Rattle.link.specs.declared.link.Limit.{Limit}
 use Rattle.link.specs.declared.link.Line.{Line}
 use Rattle.link.specs.declared.link.Arrival.{Arrival}
 use Rattle.link.specs.declared.link.Left.{Left}
 use Rattle.link.specs.declared.link.Left.TheVariants as Left
-use Rattle.link.specs.declared.link.Begun.{Begun}
-use Rattle.link.specs.declared.link.Begun.TheVariants as Begun
 use Rattle.link.specs.declared.link.Delivered.{Delivered}
 use Rattle.link.specs.declared.link.Transmitted.{Transmitted}
 use Rattle.toggler.specs.declared.toggler.Toggler.{Toggler}
@@ -41,7 +40,6 @@ use Rattle.remy.specs.declared.network.RemyNetwork.{RemyNetwork}
 use Rattle.remy.specs.declared.simulation.Simulation.{Simulation}
 use Rattle.remy.specs.declared.simulation.TickRecord.{TickRecord}
 use Rattle.remy.specs.declared.simulation.Mark.TheVariants as Mark
-use Rattle.remy.specs.declared.simulation.Name.TheVariants as Name
 use Rattle.remy.specs.State.{values_of, link, sender, toggler, no_waiting, no_transit, no_line, no_sender, no_toggler, no_meter, line_at, sender_at, toggler_at, meter_at, front_of, first_of, with_line, sender_bits, packet_bits, with_on_line, with_toggler}
 use Rattle.remy.specs.Queue.{part_of, own_time, requeue, picked}
 use Rattle.remy.specs.Tick.{Acted, named, record_at, marked, arrive_with, arrives, timer_with, send_with, sender_with, sender_acts, toggler_with, toggler_acts, switches, to_bouncer, left_record, left_messages, begun_name, put_on_line, heard_mark, return_with, link_with, link_acts, acts_of, moves, stops, deliver, deliver_all, pick_again, outcome_with, outcome_of}
@@ -50,15 +48,13 @@ use Rattle.turns.specs.declared.Hearing.{Hearing}
 use Rattle.turns.specs.declared.LinkActed.{LinkActed}
 use Rattle.turns.specs.declared.SenderActed.{SenderActed}
 use Rattle.turns.specs.declared.Arriving.{Arriving}
-use Rattle.turns.specs.declared.Sending.{Sending}
-use Rattle.turns.specs.declared.Sending.TheVariants as Sending
 use Rattle.queueing.specs.Queueing.{link_slot, sender_slot, toggler_slot}
 use Rattle.turns.specs.Turns.{link_values, link_acted, on_line_at, passed_on, heard_with, heard_by, link_note, toggler_note, switched_to, sender_acted, timer_took, send_took, sender_took, arrival_mark, arrived_with, arrived_at, waiting_at, sender_note}
 
 -- ---- a packet arrives at the link of line l, sent or passed on
 
 -- the state after it, as the loop stores it
-abbrev pub arrived_state : Simulation → ℕ → ℕ → Sending → Arriving → Simulation
+abbrev pub arrived_state : Simulation → ℕ → ℕ → Option Packet → Arriving → Simulation
 arrived_state m l bits sending b =
     let slot = slot_of l b.at in
     let place = part_of m.network.senders (link l) in
@@ -75,7 +71,7 @@ arrived_state m l bits sending b =
     }
 
 -- a packet that is not admitted leaves the line as it was
-same_line : (limit : Limit) (x : Line) (bits : Information) → (receive_of limit x bits).admitted ≡ false → (receive_of limit x bits).line ≡ x
+same_line : (limit : Option ℕ) (x : Line) (bits : Information) → (receive_of limit x bits).admitted ≡ false → (receive_of limit x bits).line ≡ x
 unfolding receive_of
 same_line limit x bits = by (admits limit x.buffer_contains bits) (leb places x.waiting.count)
   where
@@ -88,7 +84,7 @@ same_line limit x bits = by (admits limit x.buffer_contains bits) (leb places x.
     by false u e = refl
 
 -- nothing arrives
-nothing-arrives : (m : Simulation) (l : ℕ) (limit : Limit) (bits : ℕ) → arrived_state m l bits Sending.Nothing (arrived_at l limit bits (line_at m l) Sending.Nothing) ≡ m
+nothing-arrives : (m : Simulation) (l : ℕ) (limit : Option ℕ) (bits : ℕ) → arrived_state m l bits None (arrived_at l limit bits (line_at m l) None) ≡ m
 unfolding arrived_at
 nothing-arrives m l limit bits =
     rw (set-get_or m.lines l no_line, set-get_or m.waiting (slot_of l (place_after (line_at m l).waiting)) no_waiting, set-get_or m.queue (part_of m.network.senders (link l)) no_queued)
@@ -96,10 +92,10 @@ nothing-arrives m l limit bits =
 module _ (m : Simulation) (l : ℕ) (full : length m.lines ≡ 2) (few : l < 2) (r : TickRecord) (p : Packet) (bits : ℕ) (own : (packet_bits m.network p).0 ≡ bits) where
   -- as the loop has it
   abbrev received : Arriving
-  received = arrived_at l (values_of m.network l).limit bits (line_at m l) (Sending.Packet p)
+  received = arrived_at l (values_of m.network l).limit bits (line_at m l) (Some p)
 
   arrives_with : (a : Arrival) (adm : Bool) → a.admitted ≡ adm → (adm ≡ false → a.line ≡ line_at m l) → a.number ≡ 0
-      → arrive_with r m l p a ≡ moves (marked r (arrival_mark l a.admitted)) (arrived_state m l bits (Sending.Packet p) (arrived_with l (line_at m l) a))
+      → arrive_with r m l p a ≡ moves (marked r (arrival_mark l a.admitted)) (arrived_state m l bits (Some p) (arrived_with l (line_at m l) a))
   unfolding requeue own_time
   arrives_with a true f g z = rw (eq-eqb _ _ z, f, own, get_or-set_same m.lines l a.line no_line (omega (arith, full, few)))
   arrives_with a false f g z = rw (eq-eqb _ _ z, f, g refl, set-get_or m.lines l no_line, set-get_or m.waiting (slot_of l (place_after (line_at m l).waiting)) no_waiting)
@@ -109,7 +105,7 @@ module _ (m : Simulation) (l : ℕ) (full : length m.lines ≡ 2) (few : l < 2) 
   unfolding deliver
   received-own = ap (λ (b : ℕ). arrive_with r m l p (receive_of (values_of m.network l).limit (line_at m l) (amount_of b))) own
 
-  arrives_law : received.number ≡ 0 → deliver r m (arrives l p) ≡ moves (marked r received.mark) (arrived_state m l bits (Sending.Packet p) received)
+  arrives_law : received.number ≡ 0 → deliver r m (arrives l p) ≡ moves (marked r received.mark) (arrived_state m l bits (Some p) received)
   unfolding arrived_at
   arrives_law z =
       let a = receive_of (values_of m.network l).limit (line_at m l) (amount_of bits) in
@@ -125,7 +121,7 @@ module _ (m : Simulation) (l : ℕ) (full : length m.lines ≡ 2) (few : l < 2) 
 -- ---- what the link of line l did
 
 -- the state once the link is queued again, as the loop stores it
-abbrev pub acted_state : Simulation → ℕ → ℕ → Line → Begun → Simulation
+abbrev pub acted_state : Simulation → ℕ → ℕ → Line → Option Transit → Simulation
 acted_state s l at x begun =
     let on = set s.on_line at (on_line_at begun (get_or s.on_line at no_transit)) in
     let place = part_of s.network.senders (link l) in
@@ -141,11 +137,11 @@ acted_state s l at x begun =
       queue = set s.queue place (link_slot true x s.head.clock (get_or on (slot_of l x.on_line.start) no_transit) (get_or s.queue place no_queued));
     }
 
-put_line : (s : Simulation) (at : ℕ) (begun : Begun) → put_on_line s at begun ≡ with_on_line s (set s.on_line at (on_line_at begun (get_or s.on_line at no_transit)))
-put_line s at Begun.Nobody = rw (set-get_or s.on_line at no_transit)
-put_line s at (Begun.Starts x) = refl
+put_line : (s : Simulation) (at : ℕ) (begun : Option Transit) → put_on_line s at begun ≡ with_on_line s (set s.on_line at (on_line_at begun (get_or s.on_line at no_transit)))
+put_line s at None = rw (set-get_or s.on_line at no_transit)
+put_line s at (Some x) = refl
 
-acted : (s : Simulation) (l : ℕ) → length s.lines ≡ 2 → l < 2 → (at : ℕ) (x : Line) (begun : Begun) → requeue (with_line (put_on_line s at begun) l x) (link l) ≡ acted_state s l at x begun
+acted : (s : Simulation) (l : ℕ) → length s.lines ≡ 2 → l < 2 → (at : ℕ) (x : Line) (begun : Option Transit) → requeue (with_line (put_on_line s at begun) l x) (link l) ≡ acted_state s l at x begun
 unfolding requeue own_time
 acted s l full few at x begun =
     ap (λ (m : Simulation). requeue (with_line m l x) (link l)) (put_line s at begun) ∙ rw (get_or-set_same s.lines l x no_line (omega (arith, full, few)))
@@ -185,29 +181,29 @@ module _ (m : Simulation) (k : ℕ) where
   returned_of_lem r p j e = rw e
 
 -- a packet that is not passed on comes to its sender
-comes_home : (n : RemyNetwork) (l : ℕ) (p : Packet) → passed_on n l (Left.Out p) ≡ Sending.Nothing → to_bouncer n l ≡ false
+comes_home : (n : RemyNetwork) (l : ℕ) (p : Packet) → passed_on n l (Left.Out p) ≡ None → to_bouncer n l ≡ false
 comes_home n l p = by (to_bouncer n l)
   where
-    by : (b : Bool) → cond b (Sending.Packet p) Sending.Nothing ≡ Sending.Nothing → b ≡ false
+    by : (b : Bool) → cond b (Some p) None ≡ None → b ≡ false
     by true e = cc
     by false e = refl
 
 -- and one that is passed on left for the bouncer
-pub goes_on : (n : RemyNetwork) (l : ℕ) (left : Left) (p : Packet) → passed_on n l left ≡ Sending.Packet p → (left ≡ Left.Out p) × (to_bouncer n l ≡ true)
+pub goes_on : (n : RemyNetwork) (l : ℕ) (left : Left) (p : Packet) → passed_on n l left ≡ Some p → (left ≡ Left.Out p) × (to_bouncer n l ≡ true)
 goes_on n l Left.Nobody p e = (cc, cc)
 goes_on n l (Left.Lost q) p e = (cc, cc)
 goes_on n l (Left.Out q) p e = by (to_bouncer n l) e
   where
-    by : (b : Bool) → cond b (Sending.Packet q) Sending.Nothing ≡ Sending.Packet p → (Left.Out q ≡ Left.Out p) × (b ≡ true)
+    by : (b : Bool) → cond b (Some q) None ≡ Some p → (Left.Out q ≡ Left.Out p) × (b ≡ true)
     by true e = (cc, refl)
     by false e = (cc, cc)
 
 -- m is the state after the link acted
-module _ (s m : Simulation) (l k : ℕ) (begun : Begun) where
+module _ (s m : Simulation) (l k : ℕ) (begun : Option Transit) where
   abbrev hearing : Left → Hearing
   hearing left = heard_by m.network.policy (sender_bits m.network k).0 m.head.clock l left (sender_at m k) (meter_at m k)
 
-  home_law : (left : Left) → ((p : Packet) → left ≡ Left.Out p → p.sender ≡ k) → passed_on s.network l left ≡ Sending.Nothing
+  home_law : (left : Left) → ((p : Packet) → left ≡ Left.Out p → p.sender ≡ k) → passed_on s.network l left ≡ None
       → deliver_all (moves (left_record s l left (begun_name begun)) m) (left_messages s.network l left)
       ≡ moves (link_note s.head.clock (part_of s.network.senders (link l)) left begun (hearing left).mark) (heard_state m k (hearing left))
   unfolding heard_by deliver
@@ -235,7 +231,7 @@ bounced_state m =
       queue = set m.queue (1 + 2 * m.network.senders) no_queued;
     }
 
-module _ (s m : Simulation) (l : ℕ) (begun : Begun) (p : Packet) (to : to_bouncer s.network l ≡ true) where
+module _ (s m : Simulation) (l : ℕ) (begun : Option Transit) (p : Packet) (to : to_bouncer s.network l ≡ true) where
   passes : deliver_all (moves (left_record s l (Left.Out p) (begun_name begun)) m) (left_messages s.network l (Left.Out p))
       ≡ deliver (left_record s l (Left.Out p) (begun_name begun)) (bounced_state m) (arrives 1 p)
   unfolding deliver requeue own_time
@@ -275,20 +271,20 @@ module _ (s : Simulation) (l : ℕ) (full : length s.lines ≡ 2) (few : l < 2)
       by d t y = rw (eq-eqb _ _ y, acted s l full few (slot_of l (place_after d.line.on_line)) t.line t.begun)
 
   -- home to its sender k, or nothing left
-  pub home_moves : c.number ≡ 0 → (k : ℕ) → ((p : Packet) → c.left ≡ Left.Out p → p.sender ≡ k) → passed_on s.network l c.left ≡ Sending.Nothing
+  pub home_moves : c.number ≡ 0 → (k : ℕ) → ((p : Packet) → c.left ≡ Left.Out p → p.sender ≡ k) → passed_on s.network l c.left ≡ None
       → (h : Hearing) → h ≡ heard_by s.network.policy (sender_bits s.network k).0 s.head.clock l c.left (sender_at s k) (meter_at s k)
       → outcome_of s (link l) ≡ moves (link_note s.head.clock (part_of s.network.senders (link l)) c.left c.begun h.mark) (picked (heard_state acts k h))
   home_moves z k own home h g = rw g (link_acted_lem z ∙ ap pick_again (home_law s acts l k c.begun c.left own home))
 
   -- on to the return line, by the bouncer
   module _ (p : Packet) (z : c.number ≡ 0) (out : c.left ≡ Left.Out p) (to : to_bouncer s.network l ≡ true) (other : 1 ≡ l → ⊥) (bits : ℕ) (own : (packet_bits s.network p).0 ≡ bits)
-      (b : Arriving) (g : b ≡ arrived_at 1 (values_of s.network 1).limit bits (line_at s 1) (Sending.Packet p)) where
+      (b : Arriving) (g : b ≡ arrived_at 1 (values_of s.network 1).limit bits (line_at s 1) (Some p)) where
     bounced : outcome_of s (link l) ≡ pick_again (deliver (left_record s l (Left.Out p) (begun_name c.begun)) (bounced_state acts) (arrives 1 p))
     bounced = link_acted_lem z ∙ rw out (ap pick_again (passes s acts l c.begun p to))
 
     -- the second line is as it was
-    arriving : b ≡ arrived_at 1 (values_of s.network 1).limit bits (line_at acts 1) (Sending.Packet p)
-    arriving = g ∙ ap (λ (x : Line). arrived_at 1 (values_of s.network 1).limit bits x (Sending.Packet p)) (sym (get_or-set_other s.lines l 1 c.line no_line other))
+    arriving : b ≡ arrived_at 1 (values_of s.network 1).limit bits (line_at acts 1) (Some p)
+    arriving = g ∙ ap (λ (x : Line). arrived_at 1 (values_of s.network 1).limit bits x (Some p)) (sym (get_or-set_other s.lines l 1 c.line no_line other))
 
     both : length acts.lines ≡ 2
     both = length-set s.lines l c.line ∙ full
@@ -300,7 +296,7 @@ module _ (s : Simulation) (l : ℕ) (full : length s.lines ≡ 2) (few : l < 2)
         ∙ ap (λ (x : Arriving). stops x.number) (sym arriving)
 
     pub pass_moves : b.number ≡ 0
-        → outcome_of s (link l) ≡ moves (link_note s.head.clock (part_of s.network.senders (link l)) c.left c.begun b.mark) (picked (arrived_state (bounced_state acts) 1 bits (Sending.Packet p) b))
+        → outcome_of s (link l) ≡ moves (link_note s.head.clock (part_of s.network.senders (link l)) c.left c.begun b.mark) (picked (arrived_state (bounced_state acts) 1 bits (Some p) b))
     pass_moves y =
         rw (out, arriving)
         (bounced
@@ -333,7 +329,7 @@ unfolding deliver requeue own_time
 toggler_with_lem s i t z = rw (eq-eqb _ _ z) (by t.toggler.enabled refl)
   where
     by : (b : Bool) → t.toggler.enabled ≡ b
-        → pick_again (deliver (record_at s (toggler i) Mark.None Name.None Name.None) (requeue (with_toggler s i t.toggler) (toggler i)) (switches i t.toggler.enabled))
+        → pick_again (deliver (record_at s (toggler i) Mark.None None None) (requeue (with_toggler s i t.toggler) (toggler i)) (switches i t.toggler.enabled))
         ≡ moves (toggler_note s.head.clock i t.toggler.enabled)
         (picked (toggler_state s i t.toggler (switched_to s.network.policy t.toggler.enabled (sender_at s i) s.head.clock) (switched_of (meter_at s i) t.toggler.enabled s.head.clock).meter))
     by true e = rw e
@@ -374,36 +370,36 @@ sender-state s i a b = arrived_state (sent_state s i a.sender) 0 (sender_bits s.
 
 module _ (s : Simulation) (full : length s.lines ≡ 2) (i : ℕ) where
   -- what comes of it at the first line, as the loop has it
-  abbrev arriving_at : Sending → Arriving
+  abbrev arriving_at : Option Packet → Arriving
   arriving_at sending = arrived_at 0 s.network.line.limit (sender_bits s.network i).0 (line_at s 0) sending
 
   -- the sender's turn by what it sends
   by_timer : (t : Enabled)
-      → outcome_with (sender i) (timer_with s i t) ≡ moves (sender_note s.head.clock i Sending.Nothing Mark.Timer) (picked (sender-state s i (timer_took (sender_at s i) t) (arriving_at Sending.Nothing)))
+      → outcome_with (sender i) (timer_with s i t) ≡ moves (sender_note s.head.clock i None Mark.Timer) (picked (sender-state s i (timer_took (sender_at s i) t) (arriving_at None)))
   unfolding requeue own_time
   by_timer t =
-      ap (λ (m : Simulation). moves (sender_note s.head.clock i Sending.Nothing Mark.Timer) (picked m))
+      ap (λ (m : Simulation). moves (sender_note s.head.clock i None Mark.Timer) (picked m))
       (sym (nothing-arrives (sent_state s i (timer_took (sender_at s i) t).sender) 0 s.network.line.limit (sender_bits s.network i).0))
 
   own_bits : {j : ℕ} → j ≡ i → (sender_bits s.network j).0 ≡ (sender_bits s.network i).0
   own_bits own = ap (λ (k : ℕ). (sender_bits s.network k).0) own
 
-  by_send : (t : Sent) → t.packet.sender ≡ i → t.number ≡ 0 → (arriving_at (Sending.Packet t.packet)).number ≡ 0
+  by_send : (t : Sent) → t.packet.sender ≡ i → t.number ≡ 0 → (arriving_at (Some t.packet)).number ≡ 0
       → outcome_with (sender i) (send_with s i t)
-      ≡ moves (sender_note s.head.clock i (Sending.Packet t.packet) (arriving_at (Sending.Packet t.packet)).mark) (picked (sender-state s i (send_took (sender_at s i) t) (arriving_at (Sending.Packet t.packet))))
+      ≡ moves (sender_note s.head.clock i (Some t.packet) (arriving_at (Some t.packet)).mark) (picked (sender-state s i (send_took (sender_at s i) t) (arriving_at (Some t.packet))))
   unfolding requeue own_time
   by_send t own z y =
       rw (eq-eqb _ _ z)
       (ap pick_again
-      (arrives_law (sent_state s i (send_took (sender_at s i) t).sender) 0 full (omega arith) (record_at s (sender i) Mark.None (named t.packet) Name.None) t.packet (sender_bits s.network i).0 (own_bits own) y))
+      (arrives_law (sent_state s i (send_took (sender_at s i) t).sender) 0 full (omega arith) (record_at s (sender i) Mark.None (named t.packet) None) t.packet (sender_bits s.network i).0 (own_bits own) y))
 
-  by_full : (t : Sent) → t.packet.sender ≡ i → t.number ≡ 0 → eqb (arriving_at (Sending.Packet t.packet)).number 0 ≡ false
-      → outcome_with (sender i) (send_with s i t) ≡ stops (arriving_at (Sending.Packet t.packet)).number
+  by_full : (t : Sent) → t.packet.sender ≡ i → t.number ≡ 0 → eqb (arriving_at (Some t.packet)).number 0 ≡ false
+      → outcome_with (sender i) (send_with s i t) ≡ stops (arriving_at (Some t.packet)).number
   unfolding requeue own_time
   by_full t own z y =
       rw (eq-eqb _ _ z)
       (ap pick_again
-      (arrives_stops (sent_state s i (send_took (sender_at s i) t).sender) 0 full (omega arith) (record_at s (sender i) Mark.None (named t.packet) Name.None) t.packet (sender_bits s.network i).0 (own_bits own) y))
+      (arrives_stops (sent_state s i (send_took (sender_at s i) t).sender) 0 full (omega arith) (record_at s (sender i) Mark.None (named t.packet) None) t.packet (sender_bits s.network i).0 (own_bits own) y))
 
   -- by the state of the sender
   abbrev Turn : SenderActed → Arriving → Acted → Type 0

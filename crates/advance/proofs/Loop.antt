@@ -1,4 +1,5 @@
 -- What each arm of the loop knows and stores: the turn, what is in range, and the state as it is stored. One variable and one equation for each call. Assumes nothing.
+use Rattle.std.proofs.Common.{Option, Some, None}
 use mathlib.Core.Path.{◌≡◌, refl, sym, ap, subst, ◌∙◌}
 use mathlib.Core.Bool.{Bool, true, false, cond, true≢false}
 use mathlib.Core.List.{List}
@@ -18,7 +19,6 @@ use Rattle.meters.specs.Meter.{switched_of}
 use Rattle.link.specs.declared.packet.Packet.{Packet}
 use Rattle.link.specs.declared.packet.Waiting.{Waiting}
 use Rattle.link.specs.declared.packet.Transit.{Transit}
-use Rattle.link.specs.declared.link.Limit.{Limit}
 use Rattle.link.specs.declared.link.Line.{Line}
 use Rattle.link.specs.declared.link.Left.{Left}
 use Rattle.link.specs.declared.link.Left.TheVariants as Left
@@ -48,8 +48,6 @@ use Rattle.queueing.specs.declared.Now.TheVariants as Now
 use Rattle.turns.specs.declared.LinkValues.{LinkValues}
 use Rattle.turns.specs.declared.LinkActed.{LinkActed}
 use Rattle.turns.specs.declared.Hearing.{Hearing}
-use Rattle.turns.specs.declared.Sending.{Sending}
-use Rattle.turns.specs.declared.Sending.TheVariants as Sending
 use Rattle.turns.specs.declared.SenderActed.{SenderActed}
 use Rattle.turns.specs.declared.Arriving.{Arriving}
 use Rattle.queueing.proofs.Parts.{fit_none}
@@ -131,22 +129,22 @@ module _ (v : LinkValues) (x : Line) (clock : Time) (front : Transit) (first : W
       subst (λ (y : LinkActed). y.line.on_line.start < places) (sym e)
       (subst (λ (y : ℕ). y < places) (sym (keeps_start (try_deliver x clock front v.loss).line clock first (span_of v.delay) (rate_of v.rate))) (on-line_range x clock front v.loss start count).0)
 
-module _ (l : ℕ) (limit : Limit) (bits : ℕ) (x : Line) (sending : Sending) (b : Arriving) (e : b ≡ arrived_at l limit bits x sending) where
+module _ (l : ℕ) (limit : Option ℕ) (bits : ℕ) (x : Line) (sending : Option Packet) (b : Arriving) (e : b ≡ arrived_at l limit bits x sending) where
   pub arrive_at : b.at < places
   unfolding arrived_at
   arrive_at = subst (λ (y : Arriving). y.at < places) (sym e) (by sending)
     where
-      by : (w : Sending) → (arrived_at l limit bits x w).at < places
-      by Sending.Nothing = omega arith
-      by (Sending.Packet p) = omega arith
+      by : (w : Option Packet) → (arrived_at l limit bits x w).at < places
+      by None = omega arith
+      by (Some p) = omega arith
 
   pub arrive_start : x.on_line.start < places → b.line.on_line.start < places
   unfolding arrived_at receive_of
   arrive_start h = subst (λ (y : Arriving). y.line.on_line.start < places) (sym e) (by sending)
     where
-      by : (w : Sending) → (arrived_at l limit bits x w).line.on_line.start < places
-      by Sending.Nothing = h
-      by (Sending.Packet p) =
+      by : (w : Option Packet) → (arrived_at l limit bits x w).line.on_line.start < places
+      by None = h
+      by (Some p) =
           let P : Arrival → Type 0 = λ a. a.line.on_line.start < places in
           cond_elim P (admits limit x.buffer_contains (amount_of bits)) _ _ (λ t. cond_elim P (leb places x.waiting.count) _ _ (λ u. h) (λ u. h)) (λ t. h)
 
@@ -165,7 +163,7 @@ only_first n (suc l) e = absurd (true≢false (sym e))
 
 module _ (s : Simulation) (full : Full s) (l : ℕ) (t : LinkTurn s l) (k : ℕ) (ek : k ≡ owner_of (front_of s l).packet)
     (c : LinkActed) (ec : c ≡ link_acted (link_values (values_of s.network l)) (line_at s l) s.head.clock (front_of s l) (first_of s l))
-    (w : Sending) (ew : w ≡ passed_on s.network l c.left) (p : Packet) (wp : w ≡ Sending.Packet p) where
+    (w : Option Packet) (ew : w ≡ passed_on s.network l c.left) (p : Packet) (wp : w ≡ Some p) where
   pub passes-out : c.left ≡ Left.Out p
   passes-out = (goes_on s.network l c.left p (sym ew ∙ wp)).0
 
@@ -186,7 +184,7 @@ module _ (s : Simulation) (full : Full s) (l : ℕ) (t : LinkTurn s l) (k : ℕ)
   passes_room = room s t.fits full 1 second_line k (own-packet s t.fits full l t.there k ek c ec p passes-out).1
 
   module _ (z : c.number ≡ 0) (b : Arriving) (eb : b ≡ arrived_at 1 (values_of s.network 1).limit (sender_bits s.network k).0 (line_at s 1) w) where
-    arrives_so : b ≡ arrived_at 1 (values_of s.network 1).limit (sender_bits s.network k).0 (line_at s 1) (Sending.Packet p)
+    arrives_so : b ≡ arrived_at 1 (values_of s.network 1).limit (sender_bits s.network k).0 (line_at s 1) (Some p)
     arrives_so = eb ∙ ap (arrived_at 1 (values_of s.network 1).limit (sender_bits s.network k).0 (line_at s 1)) wp
 
     pub pass_stopped : eqb b.number 0 ≡ false → outcome_of s (link l) ≡ stops b.number
@@ -238,7 +236,7 @@ stored_slot slot d l n i full inside x q e = e ∙ ap slot (sym (get_or-set_same
 
 module _ (s : Simulation) (full : Full s) (l : ℕ) (t : LinkTurn s l) (k : ℕ) (ek : k ≡ owner_of (front_of s l).packet)
     (c : LinkActed) (ec : c ≡ link_acted (link_values (values_of s.network l)) (line_at s l) s.head.clock (front_of s l) (first_of s l)) (z : c.number ≡ 0)
-    (w : Sending) (ew : w ≡ passed_on s.network l c.left) (home : w ≡ Sending.Nothing)
+    (w : Option Packet) (ew : w ≡ passed_on s.network l c.left) (home : w ≡ None)
     (h : Hearing) (eh : h ≡ heard_by s.network.policy (sender_bits s.network k).0 s.head.clock l c.left (sender_at s k) (meter_at s k)) where
   pub home_stored : (new : Transit) → new ≡ on_line_at c.begun (get_or s.on_line (slot_of l c.at) no_transit)
       → (place : ℕ) → place ≡ part_of s.network.senders (link l)

@@ -1,4 +1,5 @@
 -- The loop of ticks: whose turn it is, what is in range then, and the equation that the loop keeps. Assumes nothing.
+use Rattle.std.proofs.Common.{Option, Some, None}
 use mathlib.Core.Path.{◌≡◌, refl, sym, ap, subst, ◌∙◌}
 use mathlib.Core.Bool.{Bool, true, false, ◌&&◌, cond}
 use mathlib.Core.List.{List, [], ◌∷◌, map}
@@ -8,8 +9,7 @@ use lib.ListN.{length, set, replicate, length-set}
 use lib.Dec.{leb, eqb}
 use lib.Ieee.{lt, eq}
 use borrow.Author.Tests.{leb-true, eqb-true, lt-ltb}
-use Rattle.quantities.specs.declared.time.OptionTime.{OptionTime}
-use Rattle.quantities.specs.declared.time.OptionTime.TheVariants.{None, Some}
+use Rattle.quantities.specs.declared.time.Time.{Time}
 use Rattle.quantities.specs.Doubles.{power}
 use Rattle.draws.specs.Draws.{unit_of}
 use Rattle.link.specs.declared.packet.Packet.{Packet}
@@ -22,8 +22,6 @@ use Rattle.toggler.specs.declared.tick_queue.Picked.{Picked}
 use Rattle.toggler.specs.Queue.{queue_places, no_queued, pick_of}
 use Rattle.link.proofs.Items.{Sound, items-length}
 use Rattle.remy.specs.declared.network.RemyNetwork.{RemyNetwork}
-use Rattle.remy.specs.declared.simulation.Next.{Next}
-use Rattle.remy.specs.declared.simulation.Next.TheVariants as Next
 use Rattle.remy.specs.declared.simulation.Simulation.{Simulation}
 use Rattle.remy.specs.declared.simulation.TickRecord.{TickRecord}
 use Rattle.remy.specs.declared.simulation.Ticked.{Ticked}
@@ -71,9 +69,9 @@ module _ (s : Simulation) (f : fit s ≡ true) where
       (λ b e. (f, second_there back b, e))
       (λ e. e)
 
-  by_next : (next : Next) → tick_of s ≡ tick_next s next → TickAs s (now_next next s.head.clock s.network.senders (has_back s.network.back))
-  by_next Next.None e = e
-  by_next (Next.Part k) e = late (lt (power 40) s.head.clock.0.0) e
+  by_next : (next : Option ℕ) → tick_of s ≡ tick_next s next → TickAs s (now_next next s.head.clock s.network.senders (has_back s.network.back))
+  by_next None e = e
+  by_next (Some k) e = late (lt (power 40) s.head.clock.0.0) e
     where
       late : (b : Bool) → tick_of s ≡ cond b (unmoved s 10) (ticked s (outcome_of s (role_in s.network k))) → TickAs s (cond b (Now.Stop 10) (now_role (role_in s.network k)))
       late true e = e
@@ -158,7 +156,7 @@ module _ (all : Recorded) (steady : Bool) (n parts d : ℕ) (notes : List Noted)
   ends_kept true k h = let more = k.left in absurd (omega (arith, more, h))
 
   module _ (k : Ripe all steady n parts d notes note m) where
-    picked-long : (p : Picked) (t : OptionTime) → length (removed m.queue p t) ≡ length m.queue
+    picked-long : (p : Picked) (t : Option Time) → length (removed m.queue p t) ≡ length m.queue
     picked-long p None = refl
     picked-long p (Some t) = length-set m.queue p.part no_queued
 

@@ -1,5 +1,6 @@
 -- What the type of a simulation says of one that code has: its arrays have all their places, and the times that can become the clock are doubles. Read off what owning
 -- a value tells, which is computed from its type. Assumes nothing.
+use Rattle.std.proofs.Common.{Option, Some, None}
 use mathlib.Core.Path.{◌≡◌}
 use mathlib.Core.List.{List, [], ◌∷◌}
 use Prim.Native.Nat.{ℕ, zero, suc}
@@ -13,8 +14,6 @@ use denote.RattleType.{RattleType}
 use denote.Builtin.{One, Array}
 use denote.Struct.Field.{Field, row_field}
 use Rattle.quantities.specs.declared.time.Time.{Time}
-use Rattle.quantities.specs.declared.time.OptionTime.{OptionTime}
-use Rattle.quantities.specs.declared.time.OptionTime.TheVariants.{None, Some}
 use Rattle.quantities.specs.NewTime.{Double}
 use Rattle.quantities.specs.contracts.time.Time as T
 use Rattle.quantities.specs.contracts.time.OptionTime as O
@@ -70,7 +69,7 @@ module _ (R : RattleType) (one : One R.mir) (n : ℕ) (xs : List R.Denot) (vs : 
 time-double : (t : Time) (vs : List Val) → Owning T.the_field t vs → Double t
 time-double t vs p = holds (fits binary64 t.0.0) p.1.1.0.1.1.0.1
 
-option_double : (o : OptionTime) (vs : List Val) → Owning O.the_field o vs → IfAny Double o
+option_double : (o : Option Time) (vs : List Val) → Owning O.the_field o vs → IfAny Double o
 option_double None vs p = tt
 option_double (Some t) vs p = time-double t _ p.1.1.1.1.0
 

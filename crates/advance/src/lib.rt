@@ -5,12 +5,11 @@ ghost use Rattle.std.specs.Prelude.{◌≡◌, replicate};
 ghost use Rattle.remy.specs.Run.{batch, no_noted};
 ghost use Rattle.advance.specs.Advance.{advance_of};
 
-use quantities::{Information, OptionTime};
+use quantities::{Information};
 use queueing::Now;
 use ranges::lines::values_of;
 use remy::{Noted, Recorded, Simulation};
 use toggler::{Picked, Queued};
-use turns::Sending;
 
 // Ticks until n are done, idle or refused. A tick takes two rounds. In the first its part has its turn;
 // the state is then ripe for the pick, which is made in the second, among the parts that are there, and
@@ -38,7 +37,7 @@ pub fn advance(simulation: Simulation, n: u32) -> Recorded
     let mut ripe = false;
     while done < n {
         if ripe {
-            let mut time = OptionTime::None;
+            let mut time = None;
             let mut part = 0;
             let mut k = 0;
             while k < parts {
@@ -55,7 +54,7 @@ pub fn advance(simulation: Simulation, n: u32) -> Recorded
             let best = Picked { time, part };
             let picked = queueing::head_of(best);
             let cleared = Queued {
-                time: OptionTime::None,
+                time: None,
             };
             st.head = picked;
             st.queue[part] = cleared;
@@ -111,7 +110,7 @@ pub fn advance(simulation: Simulation, n: u32) -> Recorded
                     let bits = sizes[receiver];
                     let passing = turns::pass_on(network, l, left);
                     match passing {
-                        Sending::Packet(_) => {
+                        Some(_) => {
                             let second = st.lines[1];
                             let second_values = values_of(first_values, back, 1);
                             let limit = second_values.limit;
@@ -150,7 +149,7 @@ pub fn advance(simulation: Simulation, n: u32) -> Recorded
                             let senders = network.senders as usize;
                             let bouncer_place = 1 + 2 * senders;
                             let no_time = Queued {
-                                time: OptionTime::None,
+                                time: None,
                             };
                             st.queue[bouncer_place] = no_time;
                             let back_front_at = 512 + passed.on_line.start;
@@ -165,7 +164,7 @@ pub fn advance(simulation: Simulation, n: u32) -> Recorded
                             note = turns::link_note(clock, place, left, begun, mark);
                             ripe = true;
                         }
-                        Sending::Nothing => {
+                        None => {
                             let sender = st.senders[receiver];
                             let meter = st.meters[receiver];
                             let policy = network.policy;

@@ -1,4 +1,5 @@
 -- A part's own next time by whose turn it would be, and one turn of the queueing of all parts. Assumes nothing.
+use Rattle.std.proofs.Common.{Option, None}
 use Prim.Native.Nat.{ℕ, zero, suc, ◌+◌, ◌-◌, ◌≤◌, ◌<◌}
 use mathlib.Core.Path.{◌≡◌, refl, sym, ap, subst, ◌∙◌}
 use mathlib.Core.List.{List, [], ◌∷◌, ◌++◌, append_assoc, append-nil}
@@ -6,8 +7,7 @@ use native.Mathlib.Numerals.{add-one}
 use native.Mathlib.Omega.{arith}
 use lib.ListN.{length, take, set, get_or}
 use lib.Seq.{take_all, take-suc-set}
-use Rattle.quantities.specs.declared.time.OptionTime.{OptionTime}
-use Rattle.quantities.specs.declared.time.OptionTime.TheVariants.{None}
+use Rattle.quantities.specs.declared.time.Time.{Time}
 use Rattle.draws.specs.declared.generator.Rng.{Rng}
 use Rattle.toggler.specs.declared.tick_queue.Queued.{Queued}
 use Rattle.link.specs.Ring.{places}
@@ -23,7 +23,7 @@ use Rattle.queueing.specs.declared.Now.TheVariants as Now
 use Rattle.queueing.specs.Queueing.{now_role}
 
 -- a part's own next time, and that the part is there
-abbrev pub TimeAs : Simulation → OptionTime → Now → Type 0
+abbrev pub TimeAs : Simulation → Option Time → Now → Type 0
 TimeAs s t (Now.Stop k) = t ≡ None
 TimeAs s t (Now.Link l) = (l < line_count s.network) × (t ≡ own_time s (link l))
 TimeAs s t (Now.Sender i) = (i < s.network.senders) × (t ≡ own_time s (sender i))

@@ -15,7 +15,7 @@ use draws::Rng;
 use parts::{back_words, make};
 use quantities::{Time, TimeSpan};
 use ranges::network_stop;
-use remy::{Built, Head, Next, RemyNetwork};
+use remy::{Built, Head, RemyNetwork};
 use sender::LossySender;
 pub use state::empty_simulation;
 use toggler::Toggler;
@@ -45,7 +45,7 @@ fn finish(
     let clock = Time(TimeSpan(0.0));
     let head = Head {
         clock,
-        next: Next::None,
+        next: None,
     };
     let back = back_words(network, root);
     let bare = fresh(network, head, link, back, senders, togglers);

@@ -4,7 +4,6 @@ ghost use Rattle.remy.specs.Queue.{picked};
 ghost use Rattle.remy.specs.Build.{queued_all};
 
 use link::next_tick;
-use quantities::OptionTime;
 use queueing::{Now, head_of, place_after, role, toggler_slot};
 use ranges::lines::has_back;
 use remy::Simulation;
@@ -42,7 +41,7 @@ pub(crate) fn queue_all(simulation: Simulation) -> Simulation
     let head = simulation.head;
     let clock = head.clock;
     let empty = Queued {
-        time: OptionTime::None,
+        time: None,
     };
     let mut queue = [empty; 35];
     let mut k: usize = 0;

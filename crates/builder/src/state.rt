@@ -8,8 +8,8 @@ use meters::AverageFlowMeter;
 use parts::{
     blank_transit, blank_waiting, blank_words, empty_network, empty_words, new_line, no_parts,
 };
-use quantities::{OptionTime, Time};
-use remy::{Head, Next, RemyNetwork, Simulation};
+use quantities::{Time};
+use remy::{Head, RemyNetwork, Simulation};
 use sender::LossySender;
 use toggler::{Queued, Toggler};
 
@@ -31,7 +31,7 @@ pub(crate) fn fresh(
     let transit = blank_transit();
     let meter = AverageFlowMeter::new_disabled();
     let place = Queued {
-        time: OptionTime::None,
+        time: None,
     };
     let lines = [first, second];
     let waiting = [waits; 1024];
@@ -64,7 +64,7 @@ pub fn empty_simulation() -> Simulation
     let clock = Time::MAX;
     let head = Head {
         clock,
-        next: Next::None,
+        next: None,
     };
     fresh(network, head, link, back, senders, togglers)
 }

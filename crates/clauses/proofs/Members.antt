@@ -1,4 +1,5 @@
 -- The tests of a packet and of what holds one by what decides them, and the loops over the lines, over the senders and over the places of the queue. Assumes nothing.
+use Rattle.std.proofs.Common.{Option}
 use Prim.Native.Nat.{ℕ, ◌+◌, ◌*◌, ◌≤◌, ◌<◌}
 use mathlib.Core.Path.{◌≡◌, refl, sym, ap, ◌∙◌}
 use mathlib.Core.Bool.{Bool, true, false, not, ◌&&◌}
@@ -11,7 +12,6 @@ use lib.ListN.{length, get_or, set, replicate, get_or-replicate}
 use lib.Seq.{get_or-set_same, get_or-set_other}
 use borrow.Author.Tests.{lt-ltb, le-ltb}
 use Rattle.quantities.specs.declared.time.Time.{Time}
-use Rattle.quantities.specs.declared.time.OptionTime.{OptionTime}
 use Rattle.meters.specs.declared.meter.AverageFlowMeter.{AverageFlowMeter}
 use Rattle.meters.specs.Meter.{is_on}
 use Rattle.link.specs.declared.packet.Packet.{Packet}
@@ -23,7 +23,6 @@ use Rattle.sender.specs.declared.lossy.LossySender.{LossySender}
 use Rattle.toggler.specs.declared.toggler.Toggler.{Toggler}
 use Rattle.toggler.specs.declared.tick_queue.Queued.{Queued}
 use Rattle.toggler.specs.Queue.{no_queued}
-use Rattle.remy.specs.declared.simulation.Next.{Next}
 use Rattle.remy.specs.State.{role_of, no_line, no_sender, no_toggler, no_meter}
 use Rattle.ranges.proofs.UpTo.{up_goes, up_stops, up_done, up_same}
 use Rattle.clauses.specs.Tests.{sent_test, packet_test, line_of, lines_of, Counts, Added, sender_test, senders_test, LinkTimes, place_test, empty_test, seat_of, seat_time, role_time, part_time, places_test}
@@ -105,7 +104,7 @@ module _ (policy : Policy) (bits : ℕ → ℕ) (clock : Time) (under_way : ℕ 
 
 -- ---- the times of the first links
 
-module _ (of : ℕ → OptionTime) (times : List Queued) where
+module _ (of : ℕ → Option Time) (times : List Queued) where
   pub times_none : LinkTimes of 0 times
   times_none = record { each = λ k h. absurd (not-suc-le-zero h) }
 
@@ -141,18 +140,18 @@ module _ (queue : List Queued) where
 
 module _ (count : ℕ) (back : Bool) (links : List Queued) (clock : Time) (senders : List LossySender) (togglers : List Toggler) where
   -- the own next time of part k, with the sender and the toggler of its number i
-  pub part_seated : (k i : ℕ) → ((b : Bool) → i ≡ seat_of (role_of count b k)) → (own : OptionTime)
+  pub part_seated : (k i : ℕ) → ((b : Bool) → i ≡ seat_of (role_of count b k)) → (own : Option Time)
       → own ≡ seat_time links clock (get_or senders i no_sender) (get_or togglers i no_toggler) (role_of count back k) → own ≡ part_time count back links clock senders togglers k
   unfolding part_time role_time
   part_seated k i e own o =
       o ∙ ap (λ (j : ℕ). seat_time links clock (get_or senders j no_sender) (get_or togglers j no_toggler) (role_of count back k)) (e back)
 
-module _ (count : ℕ) (back : Bool) (links : List Queued) (clock : Time) (senders : List LossySender) (togglers : List Toggler) (queue : List Queued) (next : Next) where
+module _ (count : ℕ) (back : Bool) (links : List Queued) (clock : Time) (senders : List LossySender) (togglers : List Toggler) (queue : List Queued) (next : Option ℕ) where
   pub places-none : places_test count back links clock senders togglers 0 queue next ≡ true
   unfolding places_test
   places-none = refl
 
-  module _ (k : ℕ) (own : OptionTime) (eo : own ≡ part_time count back links clock senders togglers k) (r : Bool)
+  module _ (k : ℕ) (own : Option Time) (eo : own ≡ part_time count back links clock senders togglers k) (r : Bool)
       (er : r ≡ place_test next clock k (get_or queue k no_queued).time own) where
     pub places_goes : places_test count back links clock senders togglers k queue next ≡ true → r ≡ true
         → places_test count back links clock senders togglers (k + 1) queue next ≡ true

@@ -1,12 +1,10 @@
 -- The clauses of `fit` (the crate `remy`, specs/Fit.antt) by the parts of the state that they read: a test for each packet, one for each sender with its toggler
 -- and meter, and one for each place of the queue. Definitions only. Their conjunction with `frame_test` (the crate `ranges`) is `fit` (`Groups` in the proofs of
 -- `fitness`), which the contract of `is_fit` cites; the contracts of its parts cite these.
-use Rattle.std.specs.Prelude.{ℕ, ◌+◌, ◌*◌, ◌≤◌, ◌<◌, ◌≡◌, Bool, true, not, ◌&&◌, ◌||◌, List, map, leb, ltb, eqb, get_or}
+use Rattle.std.specs.Prelude.{ℕ, ◌+◌, ◌*◌, ◌≤◌, ◌<◌, ◌≡◌, Bool, true, not, ◌&&◌, ◌||◌, List, map, leb, ltb, eqb, get_or, Option, Some, None}
 use Rattle.std.specs.Bool.{beq}
 use Rattle.std.specs.Float.Ieee.{le}
 use Rattle.quantities.specs.declared.time.Time.{Time}
-use Rattle.quantities.specs.declared.time.OptionTime.{OptionTime}
-use Rattle.quantities.specs.declared.time.OptionTime.TheVariants.{None, Some}
 use Rattle.quantities.specs.declared.information.Information.{Information}
 use Rattle.quantities.specs.Units.{span_of, span_after}
 use Rattle.draws.specs.declared.generator.Rng.{Rng}
@@ -30,12 +28,9 @@ use Rattle.link.specs.Link.{next_tick}
 use Rattle.sender.specs.Sender.{sender_next}
 use Rattle.toggler.specs.Queue.{queue_places, no_queued}
 use Rattle.sender.specs.declared.lossy.SenderState.TheVariants as State
-use Rattle.remy.specs.declared.network.ReturnLine.{ReturnLine}
-use Rattle.remy.specs.declared.simulation.Next.{Next}
 use Rattle.remy.specs.Network.{up_to, between, window_fit}
 use Rattle.remy.specs.State.{Role, link, bouncer, sender, toggler, nobody, role_of, no_line, no_sender, no_toggler, no_meter, no_waiting, no_transit, total_bits}
 use Rattle.remy.specs.Fit.{every, held, count_of, sum_to, is_next, is_timed, sender_on, same_time, rising}
-use Rattle.remy.specs.declared.simulation.Next.TheVariants as Next
 use Rattle.ranges.specs.Frame.{values_at, past_test}
 
 -- ---- packets
@@ -84,7 +79,7 @@ unfoldable pub soon_on_test : Time → List Transit → ℕ → Ring → Bool
 soon_on_test latest slots l ring = every (λ x. le x.due.0.0 latest.0.0) (items no_transit slots l ring)
 
 -- none on the first so many lines is due later than the clock and the line's delay
-unfoldable pub soon_test : LineValues → ReturnLine → Time → List Transit → List Line → ℕ → Bool
+unfoldable pub soon_test : LineValues → Option LineValues → Time → List Transit → List Line → ℕ → Bool
 soon_test first back clock on_line lines count =
     up_to count (λ l. soon_on_test (span_after clock (span_of (values_at first back l).delay)) on_line l (get_or lines l no_line).on_line)
 
@@ -112,7 +107,7 @@ Added bound first more counts = Counts bound (λ i. get_or first i 0 + more i) c
 -- ---- a sender with its toggler and meter
 
 -- a timer is held, and its policy is timed
-unfoldable pub timer_test : Policy → OptionTime → Bool
+unfoldable pub timer_test : Policy → Option Time → Bool
 timer_test policy None = true
 timer_test policy (Some t) = held t && is_timed policy
 
@@ -124,7 +119,7 @@ unfoldable pub state_test : Policy → Time → SenderState → Bool
 state_test policy clock State.WaitingForEnable = true
 state_test policy clock (State.Enabled e) = enabled_test policy clock e
 
-unfoldable pub start_test : Time → OptionTime → Bool
+unfoldable pub start_test : Time → Option Time → Bool
 start_test clock None = true
 start_test clock (Some t) = past_test clock t
 
@@ -134,7 +129,7 @@ meter_test bits clock m =
     start_test clock m.current_start && total_fit m.total_time && sum_fit m.records m.rtt_sum && eqb m.total.0 (m.records * bits)
 
 -- toggler, sender and meter agree on on/off
-unfoldable pub agree_test : Bool → SenderState → OptionTime → Bool
+unfoldable pub agree_test : Bool → SenderState → Option Time → Bool
 agree_test enabled state start = beq enabled (sender_on state) && beq (sender_on state) (is_on start)
 
 -- what was sent, with so many packets under way
@@ -165,12 +160,12 @@ module _ (policy : Policy) (bits : ℕ → ℕ) (clock : Time) (under_way : ℕ 
 -- ---- the queue
 
 -- the own next time of the link of line l
-unfoldable pub link_time : List Line → List Transit → Time → ℕ → OptionTime
+unfoldable pub link_time : List Line → List Transit → Time → ℕ → Option Time
 link_time lines on_line clock l =
     next_tick (get_or lines l no_line) clock (get_or on_line (slot_of l (get_or lines l no_line).on_line.start) no_transit).due
 
 -- the times of the first so many links, as they are queued
-pub record LinkTimes (of : ℕ → OptionTime) (count : ℕ) (times : List Queued) : Type 0 where
+pub record LinkTimes (of : ℕ → Option Time) (count : ℕ) (times : List Queued) : Type 0 where
   pub each : (l : ℕ) → l < count → (get_or times l no_queued).time ≡ of l
 
 -- the number of the sender or of the toggler that a part is; 0 for any other part
@@ -182,24 +177,24 @@ seat_of (toggler i) = i
 seat_of nobody = 0
 
 -- a part's own next time, where the sender and the toggler are those of its number; and the same among all of them
-abbrev pub seat_time : List Queued → Time → LossySender → Toggler → Role → OptionTime
+abbrev pub seat_time : List Queued → Time → LossySender → Toggler → Role → Option Time
 seat_time links clock s t (link l) = (get_or links l no_queued).time
 seat_time links clock s t bouncer = None
 seat_time links clock s t (sender i) = sender_next s clock
 seat_time links clock s t (toggler i) = Some t.next_toggle
 seat_time links clock s t nobody = None
 
-unfoldable pub role_time : List Queued → Time → List LossySender → List Toggler → Role → OptionTime
+unfoldable pub role_time : List Queued → Time → List LossySender → List Toggler → Role → Option Time
 role_time links clock senders togglers role =
     seat_time links clock (get_or senders (seat_of role) no_sender) (get_or togglers (seat_of role) no_toggler) role
 
 -- a queued time is held and not below the clock
-unfoldable pub queued_test : Time → OptionTime → Bool
+unfoldable pub queued_test : Time → Option Time → Bool
 queued_test clock None = true
 queued_test clock (Some t) = held t && le clock.0.0 t.0.0
 
 -- a place with what is queued there and the own next time of its part, which is not compared for the next part
-unfoldable pub place_test : Next → Time → ℕ → OptionTime → OptionTime → Bool
+unfoldable pub place_test : Option ℕ → Time → ℕ → Option Time → Option Time → Bool
 place_test next clock k queued own = queued_test clock queued && (is_next next k || same_time queued own)
 
 -- nothing is queued in the first n places
@@ -208,17 +203,17 @@ empty_test n queue = up_to n (λ k. not (is_on (get_or queue k no_queued).time))
 
 module _ (count : ℕ) (back : Bool) (links : List Queued) (clock : Time) (senders : List LossySender) (togglers : List Toggler) where
   -- the own next time of part k, among so many senders
-  unfoldable pub part_time : ℕ → OptionTime
+  unfoldable pub part_time : ℕ → Option Time
   part_time k = role_time links clock senders togglers (role_of count back k)
 
   -- the next part's own next time is the clock; nothing is queued where there is none
-  unfoldable pub next_test : List Queued → Next → Bool
-  next_test queue Next.None = empty_test queue_places queue
-  next_test queue (Next.Part j) = same_time (Some clock) (part_time j)
+  unfoldable pub next_test : List Queued → Option ℕ → Bool
+  next_test queue None = empty_test queue_places queue
+  next_test queue (Some j) = same_time (Some clock) (part_time j)
 
   -- the first n places
-  unfoldable pub places_test : ℕ → List Queued → Next → Bool
+  unfoldable pub places_test : ℕ → List Queued → Option ℕ → Bool
   places_test n queue next = up_to n (λ k. place_test next clock k (get_or queue k no_queued).time (part_time k))
 
-  unfoldable pub queue_test : List Queued → Next → Bool
+  unfoldable pub queue_test : List Queued → Option ℕ → Bool
   queue_test queue next = next_test queue next && places_test queue_places queue next

@@ -5,7 +5,7 @@ ghost use Rattle.ranges.specs.Frame.{InRings, AllInRings};
 ghost use Rattle.clauses.specs.Tests.{AtMost, Added, Counts, line_of, lines_of, link_time, LinkTimes};
 
 use link::{Line, Transit, Waiting, next_tick};
-use quantities::{OptionTime, Time};
+use quantities::{Time};
 use toggler::Queued;
 
 // What is found of a line: counts of the senders' packets, and what stands at the start of the ring of
@@ -93,7 +93,7 @@ pub fn under_way(
     ensures { Counts 2048 (lines_of waiting on_line lines count) result.counts × LinkTimes (link_time lines on_line clock) count result.links }
 {
     let empty = Queued {
-        time: OptionTime::None,
+        time: None,
     };
     let mut counts: [usize; 16] = [0; 16];
     let mut links = [empty; 2];

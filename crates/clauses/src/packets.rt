@@ -6,7 +6,6 @@ use link::{Line, LineValues, Packet, Ring, Transit, Waiting};
 use quantities::{Information, Time, TimeSpan};
 use ranges::frame::{past_fit, time_held};
 use ranges::lines::values_of;
-use remy::ReturnLine;
 use sender::LossySender;
 
 // Whether a packet's sequence number is in 1..sent, where its sender sent so many, and it was sent in
@@ -196,7 +195,7 @@ fn due_soon(on_line: [Transit; 1024], l: usize, ring: Ring, latest: Time) -> boo
 // A helper for `fitness`, and no entry point: `is_fit` has tested the rings.
 pub fn all_due_soon(
     first: LineValues,
-    back: ReturnLine,
+    back: Option<LineValues>,
     clock: Time,
     on_line: [Transit; 1024],
     lines: [Line; 2],

@@ -4,9 +4,8 @@ ghost use Rattle.remy.specs.Fit.{is_next, same_time};
 ghost use Rattle.clauses.specs.Tests.{queued_test, place_test, empty_test, seat_of, seat_time, next_test, places_test, queue_test};
 
 use crate::senders::is_on;
-use quantities::{OptionTime, Time};
+use quantities::{Time};
 use ranges::frame::time_held;
-use remy::Next;
 use sender::LossySender;
 use toggler::{Queued, Toggler};
 
@@ -38,7 +37,7 @@ fn part_time(
     sender: LossySender,
     toggler: Toggler,
     k: usize,
-) -> OptionTime
+) -> Option<Time>
     ensures { result ≡ seat_time links clock sender toggler (role_of n back k) }
 {
     if k == 0 {
@@ -51,54 +50,54 @@ fn part_time(
             return sender.next_tick(clock);
         }
         let next = toggler.next_toggle;
-        return OptionTime::Some(next);
+        return Some(next);
     }
     if !back {
-        return OptionTime::None;
+        return None;
     }
     if i != n as usize {
-        return OptionTime::None;
+        return None;
     }
     if k % 2 == 1 {
-        return OptionTime::None;
+        return None;
     }
     let link = links[1];
     link.time
 }
 
 // Whether two times are equal, or both are absent.
-fn same_time(a: OptionTime, b: OptionTime) -> bool
+fn same_time(a: Option<Time>, b: Option<Time>) -> bool
     ensures { result ≡ same_time a b }
 {
     match a {
-        OptionTime::None => match b {
-            OptionTime::None => true,
-            OptionTime::Some(_) => false,
+        None => match b {
+            None => true,
+            Some(_) => false,
         },
-        OptionTime::Some(t) => match b {
-            OptionTime::None => false,
-            OptionTime::Some(u) => t.0.0 == u.0.0,
+        Some(t) => match b {
+            None => false,
+            Some(u) => t.0.0 == u.0.0,
         },
     }
 }
 
 // Whether part k is the next part.
-fn is_next(next: Next, k: usize) -> bool
+fn is_next(next: Option<usize>, k: usize) -> bool
     ensures { result ≡ is_next next k }
 {
     match next {
-        Next::None => false,
-        Next::Part(j) => j == k,
+        None => false,
+        Some(j) => j == k,
     }
 }
 
 // Whether a queued time is at most 2^41 and not below the clock, or nothing is queued.
-fn queued_fit(clock: Time, queued: OptionTime) -> bool
+fn queued_fit(clock: Time, queued: Option<Time>) -> bool
     ensures { result ≡ queued_test clock queued }
 {
     match queued {
-        OptionTime::None => true,
-        OptionTime::Some(t) => {
+        None => true,
+        Some(t) => {
             if !time_held(t) {
                 return false;
             }
@@ -108,7 +107,7 @@ fn queued_fit(clock: Time, queued: OptionTime) -> bool
 }
 
 // Whether what is queued at place k is fit, where `own` is the part's own next time.
-fn place_fit(next: Next, clock: Time, k: usize, queued: OptionTime, own: OptionTime) -> bool
+fn place_fit(next: Option<usize>, clock: Time, k: usize, queued: Option<Time>, own: Option<Time>) -> bool
     ensures { result ≡ place_test next clock k queued own }
 {
     if !queued_fit(clock, queued) {
@@ -145,19 +144,19 @@ fn next_fit(
     senders: [LossySender; 16],
     togglers: [Toggler; 16],
     queue: [Queued; 35],
-    next: Next,
+    next: Option<usize>,
 ) -> bool
     requires { n ≤ 16 }
     ensures { result ≡ next_test n back links clock senders togglers queue next }
 {
     match next {
-        Next::None => is_empty(queue),
-        Next::Part(j) => {
+        None => is_empty(queue),
+        Some(j) => {
             let i = seat(n, j);
             let sender = senders[i];
             let toggler = togglers[i];
             let own = part_time(n, back, links, clock, sender, toggler, j);
-            same_time(OptionTime::Some(clock), own)
+            same_time(Some(clock), own)
         }
     }
 }
@@ -171,7 +170,7 @@ fn places_fit(
     senders: [LossySender; 16],
     togglers: [Toggler; 16],
     queue: [Queued; 35],
-    next: Next,
+    next: Option<usize>,
 ) -> bool
     requires { n ≤ 16 }
     ensures { result ≡ places_test n back links clock senders togglers 35 queue next }
@@ -203,7 +202,7 @@ pub fn queue_fit(
     senders: [LossySender; 16],
     togglers: [Toggler; 16],
     queue: [Queued; 35],
-    next: Next,
+    next: Option<usize>,
 ) -> bool
     requires { n ≤ 16 }
     ensures { result ≡ queue_test n back links clock senders togglers queue next }

@@ -7,7 +7,7 @@ ghost use Rattle.clauses.specs.Tests.{AtMost, timer_test, enabled_test, state_te
 use draws::Rng;
 use meters::AverageFlowMeter;
 use quantities::float::in_range;
-use quantities::{OptionTime, Time, TimeSpan};
+use quantities::{Time, TimeSpan};
 use ranges::frame::{past_fit, time_held};
 use ranges::window_fit;
 use sender::{Enabled, LossySender, Policy, SenderState};
@@ -25,12 +25,12 @@ fn is_timed(policy: Policy) -> bool
 }
 
 // Whether a timer is at most 2^41 and of a timed policy, or there is none.
-fn timer_fit(policy: Policy, timer: OptionTime) -> bool
+fn timer_fit(policy: Policy, timer: Option<Time>) -> bool
     ensures { result ≡ timer_test policy timer }
 {
     match timer {
-        OptionTime::None => true,
-        OptionTime::Some(t) => {
+        None => true,
+        Some(t) => {
             if !time_held(t) {
                 return false;
             }
@@ -68,12 +68,12 @@ fn state_fit(policy: Policy, clock: Time, state: SenderState) -> bool
 }
 
 // Whether a meter's start is in 0..clock and at most 2^41, or there is none.
-fn start_fit(clock: Time, start: OptionTime) -> bool
+fn start_fit(clock: Time, start: Option<Time>) -> bool
     ensures { result ≡ start_test clock start }
 {
     match start {
-        OptionTime::None => true,
-        OptionTime::Some(t) => past_fit(clock, t),
+        None => true,
+        Some(t) => past_fit(clock, t),
     }
 }
 
@@ -113,12 +113,12 @@ fn sender_on(state: SenderState) -> bool
 }
 
 // Whether there is a time: a meter that has a start is on.
-pub(crate) fn is_on(time: OptionTime) -> bool
+pub(crate) fn is_on(time: Option<Time>) -> bool
     ensures { result ≡ is_on time }
 {
     match time {
-        OptionTime::None => false,
-        OptionTime::Some(_) => true,
+        None => false,
+        Some(_) => true,
     }
 }
 
@@ -130,7 +130,7 @@ fn same(a: bool, b: bool) -> bool
 }
 
 // Whether toggler, sender and meter agree on on and off.
-fn agree(enabled: bool, state: SenderState, start: OptionTime) -> bool
+fn agree(enabled: bool, state: SenderState, start: Option<Time>) -> bool
     ensures { result ≡ agree_test enabled state start }
 {
     let on = sender_on(state);

@@ -1,4 +1,3 @@
 -- Laws that the functions' proofs cite.
-pub mod Halves
 pub mod Redraw
 pub mod ZeroWords

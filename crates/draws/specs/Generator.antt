@@ -3,7 +3,7 @@
 -- for a child, are replaced by the words of seed 0 (document 02, K5). Definitions only.
 use Rattle.std.specs.Prelude.{ℕ, ◌+◌, ◌-◌, ◌*◌, ◌/◌, ◌%◌, ◌^◌, Bool, cond, ◌&&◌, List, [], ◌∷◌, ◌==◌, bit_or, bit_xor}
 use Rattle.draws.specs.declared.generator.Rng.{Rng}
-use Rattle.draws.specs.declared.generator.Output.{Output}
+use Rattle.draws.specs.declared.generator.Drawn.{Drawn}
 use Rattle.draws.specs.declared.generator.Child.{Child}
 use Rattle.draws.specs.SplitMix64.{mixed, incremented}
 
@@ -26,7 +26,7 @@ moved_on g =
     let t3 = bit_xor g.s3 g.s1 in
     record { s0 = bit_xor g.s0 t3; s1 = bit_xor g.s1 t2; s2 = bit_xor t2 (g.s1 * 2 ^ 17 % 2 ^ 64); s3 = rotl_of t3 45 }
 
-abbrev pub next_of : Rng → Output
+abbrev pub next_of : Rng → Drawn ℕ
 next_of g = record { value = output_of g; rng = moved_on g }
 
 -- the generator of a seed; its words are taken as they are

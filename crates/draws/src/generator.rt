@@ -1,5 +1,5 @@
-ghost use Rattle.std.specs.Prelude.{◌≡◌, ◌<◌};
-ghost use Rattle.draws.specs.Generator.{words_of, rotl_of, next_of, all_zero, replaced, from_words, from_seed, child_of};
+ghost use Rattle.std.specs.Prelude.{◌≡◌};
+ghost use Rattle.draws.specs.Generator.{words_of, next_of, all_zero, replaced, from_words, from_seed, child_of};
 
 use crate::splitmix64::SplitMix64;
 
@@ -12,10 +12,10 @@ pub struct Rng {
     s3: u64,
 }
 
-// An output, and the generator after it.
+// What is drawn, and the generator after it.
 #[derive(Clone, Copy)]
-pub struct Output {
-    pub value: u64,
+pub struct Drawn<T> {
+    pub value: T,
     pub rng: Rng,
 }
 
@@ -28,6 +28,7 @@ pub struct Child {
 
 impl Rng {
     // The generator that is given these words. Four zero words are replaced.
+    #[tactic(auto, unfolding(crate::specs::Generator::from_words))]
     pub fn from_words(s0: u64, s1: u64, s2: u64, s3: u64) -> Rng
         ensures { result ≡ from_words s0 s1 s2 s3 }
     {
@@ -43,23 +44,16 @@ impl Rng {
     }
 
     // Whether all four words are zero.
+    #[tactic(auto, unfolding(crate::specs::Generator::all_zero))]
     pub fn all_zero(self) -> bool
         ensures { result ≡ all_zero self }
     {
-        if self.s0 != 0 {
-            return false;
-        }
-        if self.s1 != 0 {
-            return false;
-        }
-        if self.s2 != 0 {
-            return false;
-        }
-        self.s3 == 0
+        self.s0 == 0 && self.s1 == 0 && self.s2 == 0 && self.s3 == 0
     }
 
     // Itself; in place of four zero words those of seed 0, since from zeros xoshiro256++ gives
     // nothing but zeros.
+    #[tactic(auto, unfolding(crate::specs::Generator::replaced))]
     fn replaced(self) -> Rng
         ensures { result ≡ replaced self }
     {
@@ -70,6 +64,7 @@ impl Rng {
     }
 
     // The words are the first four SplitMix64 outputs of the seed, which are never all zero.
+    #[tactic(auto, unfolding(crate::specs::Generator::from_seed))]
     pub fn from_seed(seed: u64) -> Rng
         ensures { result ≡ from_seed seed }
     {
@@ -87,6 +82,7 @@ impl Rng {
 
     // The child's words are the next four outputs of this generator, which moves on. Four zero
     // words are replaced.
+    #[tactic(auto, unfolding(crate::specs::Generator::child_of))]
     pub fn create_child(self) -> Child
         ensures { result ≡ child_of self }
     {
@@ -94,7 +90,6 @@ impl Rng {
         let b = a.rng.next();
         let c = b.rng.next();
         let d = c.rng.next();
-        let parent = d.rng;
         let drawn = Rng {
             s0: a.value,
             s1: b.value,
@@ -102,32 +97,28 @@ impl Rng {
             s3: d.value,
         };
         let child = drawn.replaced();
-        Child { child, parent }
+        Child {
+            child,
+            parent: d.rng,
+        }
     }
 
-    pub fn next(self) -> Output
+    #[tactic(auto, unfolding(crate::specs::Generator::output_of, crate::specs::Generator::moved_on))]
+    pub fn next(self) -> Drawn<u64>
         ensures { result ≡ next_of self }
     {
         let s0 = self.s0;
         let s1 = self.s1;
-        let sum = std::num::wrapping_add_u64(s0, self.s3);
-        let value = std::num::wrapping_add_u64(rotl(sum, 23), s0);
+        let sum = s0.wrapping_add(self.s3);
+        let value = sum.rotate_left(23).wrapping_add(s0);
         let t2 = self.s2 ^ s0;
         let t3 = self.s3 ^ s1;
         let rng = Rng {
             s0: s0 ^ t3,
             s1: s1 ^ t2,
             s2: t2 ^ (s1 << 17),
-            s3: rotl(t3, 45),
+            s3: t3.rotate_left(45),
         };
-        Output { value, rng }
+        Drawn { value, rng }
     }
-}
-
-// x rotated to the left by k of its 64 places.
-fn rotl(x: u64, k: u32) -> u64
-    requires { (0 < k) × (k < 64) }
-    ensures { result ≡ rotl_of x k }
-{
-    (x << k) | (x >> (64 - k))
 }

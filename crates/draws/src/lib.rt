@@ -6,6 +6,6 @@ pub mod distribution;
 pub mod generator;
 pub mod splitmix64;
 
-pub use distribution::{ContinuousDistribution, PositiveSample, Sampled};
-pub use generator::{Child, Output, Rng};
+pub use distribution::ContinuousDistribution;
+pub use generator::{Child, Drawn, Rng};
 pub use splitmix64::SplitMix64;

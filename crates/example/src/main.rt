@@ -10,11 +10,11 @@ ghost use Rattle.reading.specs.Flow.{told_flow, flow_of};
 
 use draws::ContinuousDistribution;
 use flows::Rtt;
-use link::{Limit, LineValues};
+use link::{LineValues};
 use meters::FlowRead;
 use quantities::float::to_bits;
 use reading::SenderFlow;
-use remy::{RemyNetwork, ReturnLine};
+use remy::{RemyNetwork};
 use sender::Policy;
 use std::io;
 
@@ -32,12 +32,12 @@ fn network() -> RemyNetwork {
         delay: 1.0,
         rate: 8.0,
         loss: 0.0,
-        limit: Limit::Bits(8),
+        limit: Some(8),
     };
     let bits = [8; 16];
     RemyNetwork {
         line,
-        back: ReturnLine::None,
+        back: None,
         bits,
         senders: 1,
         on: ContinuousDistribution::Always(100.0),
@@ -70,8 +70,8 @@ fn print(rt: &impl Print, read: FlowRead) -> io::Result<()> {
             double(rt, "rate=", f.throughput.0)?;
             let rtt = f.rtt;
             match rtt {
-                Rtt::Known(t) => double(rt, "rtt=", t.0),
-                Rtt::NoPacketsAcked => println!(rt; "no packet counted"),
+                Ok(t) => double(rt, "rtt=", t.0),
+                Err(NoPacketsAcked) => println!(rt; "no packet counted"),
             }
         }
         FlowRead::NeverActive => println!(rt; "never on"),

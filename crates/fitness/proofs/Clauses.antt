@@ -1,13 +1,13 @@
 -- Conjunctions and tests of every member, and the clauses of `fit` at one packet, at one sender and at one place of the queue: each group's test holds exactly where they all do.
 -- Assumes nothing.
+use Rattle.std.proofs.Common.{Option, Some, None}
 use Prim.Native.Nat.{ℕ, zero, suc, ◌+◌, ◌*◌, ◌<◌}
 use mathlib.Core.Path.{◌≡◌, refl, sym, ap}
 use mathlib.Core.Bool.{Bool, true, false, not, ◌&&◌, ◌||◌, beq}
 use mathlib.Core.List.{List, [], ◌∷◌, map}
 use native.Mathlib.Omega.{arith}
 use lib.Dec.{leb, ltb, eqb}
-use Rattle.quantities.specs.declared.time.OptionTime.{OptionTime}
-use Rattle.quantities.specs.declared.time.OptionTime.TheVariants.{None, Some}
+use Rattle.quantities.specs.declared.time.Time.{Time}
 use Rattle.draws.specs.Generator.{all_zero}
 use Rattle.meters.specs.Meter.{is_on, total_fit, sum_fit}
 use Rattle.link.specs.declared.packet.Packet.{Packet}
@@ -96,12 +96,12 @@ module _ (s : Simulation) (p : Packet) where
 -- ---- a sender's state and a meter's start
 
 module _ (policy : Policy) where
-  timer_clauses : (t : OptionTime) → timer_test policy t ≡ true → (held_if_any t ≡ true) × ((not (is_on t) || is_timed policy) ≡ true)
+  timer_clauses : (t : Option Time) → timer_test policy t ≡ true → (held_if_any t ≡ true) × ((not (is_on t) || is_timed policy) ≡ true)
   unfolding timer_test
   timer_clauses None e = (refl, refl)
   timer_clauses (Some t) e = and_2 (held t) (is_timed policy) e
 
-  clauses_timer : (t : OptionTime) → held_if_any t ≡ true → (not (is_on t) || is_timed policy) ≡ true → timer_test policy t ≡ true
+  clauses_timer : (t : Option Time) → held_if_any t ≡ true → (not (is_on t) || is_timed policy) ≡ true → timer_test policy t ≡ true
   unfolding timer_test
   clauses_timer None e f = refl
   clauses_timer (Some t) e f = both_i (held t) (is_timed policy) e f
@@ -133,12 +133,12 @@ module _ (s : Simulation) (policy : Policy) where
       rw (h.0, c.started, c.ack, c.window) (clauses_timer policy x.timer h.1 c.timer)
 
 module _ (s : Simulation) where
-  start_clauses : (t : OptionTime) → start_test s.head.clock t ≡ true → (held_if_any t ≡ true) × (meter_start_fit s t ≡ true)
+  start_clauses : (t : Option Time) → start_test s.head.clock t ≡ true → (held_if_any t ≡ true) × (meter_start_fit s t ≡ true)
   unfolding start_test past_test
   start_clauses None e = (refl, refl)
   start_clauses (Some t) e = and_2 (held t) (since_start s t) e
 
-  clauses_start : (t : OptionTime) → held_if_any t ≡ true → meter_start_fit s t ≡ true → start_test s.head.clock t ≡ true
+  clauses_start : (t : Option Time) → held_if_any t ≡ true → meter_start_fit s t ≡ true → start_test s.head.clock t ≡ true
   unfolding start_test past_test
   clauses_start None e f = refl
   clauses_start (Some t) e f = both_i (held t) (since_start s t) e f
@@ -230,7 +230,7 @@ module _ (s : Simulation) where
       (t.each 0 (first-there (has_back s.network.back))) (λ i h. refl) (λ i h. refl) (λ b. refl)
       (λ b. t.each 1 (second_there (has_back s.network.back) b)) refl
 
-  pub queued_same : (q : OptionTime) → queued_test s.head.clock q ≡ held_queued s q
+  pub queued_same : (q : Option Time) → queued_test s.head.clock q ≡ held_queued s q
   unfolding queued_test
   queued_same None = refl
   queued_same (Some t) = refl

@@ -1,4 +1,5 @@
 -- The groups of tests together are `fit`; and what each result of a group says of it. Assumes nothing.
+use Rattle.std.proofs.Common.{Option, Some, None}
 use Prim.Native.Nat.{ℕ, ◌≤◌, ◌<◌}
 use mathlib.Core.Path.{◌≡◌, refl, sym, ap, ap₂, subst, ◌∙◌}
 use mathlib.Core.Bool.{Bool, true, false, not, ◌&&◌, ◌||◌}
@@ -7,8 +8,7 @@ use native.Mathlib.Omega.{arith}
 use lib.Dec.{leb, eqb}
 use lib.ListN.{get_or}
 use lib.Ieee.{le}
-use Rattle.quantities.specs.declared.time.OptionTime.{OptionTime}
-use Rattle.quantities.specs.declared.time.OptionTime.TheVariants.{Some}
+use Rattle.quantities.specs.declared.time.Time.{Time}
 use Rattle.quantities.specs.Doubles.{zero_f}
 use Rattle.draws.specs.Generator.{all_zero}
 use Rattle.link.specs.declared.packet.Packet.{Packet}
@@ -16,14 +16,12 @@ use Rattle.link.specs.declared.packet.Waiting.{Waiting}
 use Rattle.link.specs.declared.packet.Transit.{Transit}
 use Rattle.toggler.specs.declared.tick_queue.Queued.{Queued}
 use Rattle.toggler.specs.Queue.{queue_places}
-use Rattle.remy.specs.declared.simulation.Next.{Next}
 use Rattle.remy.specs.declared.simulation.Simulation.{Simulation}
 use Rattle.remy.specs.Network.{up_to, network_stop}
 use Rattle.remy.specs.State.{has_back, line_count, line_at, sender_at, toggler_at, meter_at, queued_at, waiting_items, waiting_packets, on_line_items, on_line_packets, sender_bits, total_bits}
 use Rattle.remy.specs.Queue.{next_time_of}
 use Rattle.remy.specs.Fit.{every, each_line, network_fit, rings_fit, packet_fit, packets_fit, bits_fit, clock_fit, held, held_if_any, held_sender, held_queued, is_next, held_times_fit, since_start, started_fit, meter_start_fit, past_fit, totals_fit, sums_fit, records_fit, rising, due_fit, ack_fit, counts_fit, windows_fit, timers_fit, togglers_agree, meters_agree, meter_bits_fit, same_time, next_fit, queue_fit, carries, carried_fit, fit}
 use Rattle.remy.proofs.Facts.{FitState, fit-state, FitWords, words_apart, words-joined, both_l, both_r, both_i, up_to-at}
-use Rattle.remy.specs.declared.simulation.Next.TheVariants as Next
 use Rattle.ranges.specs.Frame.{rings_test, line_test, lines_test, clock_held, frame_test}
 use Rattle.ranges.proofs.UpTo.{up_same}
 use Rattle.clauses.specs.Tests.{packet_test, waits_test, transit_test, waiting_test, on_line_test, due_test, line_packets_test, packets_test, line_of, lines_of, Counts, senders_test, link_time, LinkTimes, part_time, place_test, empty_test, next_test, places_test, queue_test}
@@ -221,20 +219,20 @@ module _ (s : Simulation) where
 
   -- the test through the times of the links is the test
   module _ (links : List Queued) (t : LinkTimes (link_time s.lines s.on_line s.head.clock) (line_count s.network) links) where
-    abbrev own : ℕ → OptionTime
+    abbrev own : ℕ → Option Time
     own k = part_time s.network.senders (has_back s.network.back) links s.head.clock s.senders s.togglers k
 
-    next-same : (next : Next)
+    next-same : (next : Option ℕ)
         → next_test s.network.senders (has_back s.network.back) links s.head.clock s.senders s.togglers s.queue next
         ≡ next_fit s next
     unfolding next_test empty_test
-    next-same Next.None = refl
-    next-same (Next.Part j) = ap (same_time (Some s.head.clock)) (part_same s links t j)
+    next-same None = refl
+    next-same (Some j) = ap (same_time (Some s.head.clock)) (part_same s links t j)
 
     place_same : (k : ℕ) → place_test s.head.next s.head.clock k (queued_at s k) (own k) ≡ (place_held k && place_own k)
     unfolding place_test
     place_same k =
-        ap₂ (λ (h : Bool) (u : OptionTime). h && (is_next s.head.next k || same_time (queued_at s k) u)) (queued_same s (queued_at s k)) (part_same s links t k)
+        ap₂ (λ (h : Bool) (u : Option Time). h && (is_next s.head.next k || same_time (queued_at s k) u)) (queued_same s (queued_at s k)) (part_same s links t k)
 
     links_same : queue_test s.network.senders (has_back s.network.back) links s.head.clock s.senders s.togglers s.queue s.head.next ≡ queue
     unfolding queue_test places_test

@@ -1,4 +1,5 @@
 -- The aggregator's fold over a list of flow records gives the mean of the list. Assumes nothing.
+use Rattle.std.proofs.Common.{Result, Ok, Err}
 use mathlib.Core.Path.{◌≡◌, refl, ap, ap₂, ◌∙◌}
 use mathlib.Core.Bool.{Bool, true, false, ◌&&◌, cond, and-true, and-false, and_assoc}
 use mathlib.Core.List.{List, [], ◌∷◌}
@@ -9,10 +10,9 @@ use borrow.Author.Tests.{le-leb, lt-leb, ne_eqb, ltb-true, ltb-false}
 use lib.ListN.{length}
 use lib.Dec.{leb, ltb, eqb}
 use lib.Ieee.{Float, binary64, add}
+use Rattle.quantities.specs.declared.time_span.TimeSpan.{TimeSpan}
 use Rattle.quantities.specs.Doubles.{zero_f}
 use Rattle.quantities.specs.Units.{span_of, rate_of, rate_over}
-use Rattle.flows.specs.declared.flow.Rtt.{Rtt}
-use Rattle.flows.specs.declared.flow.Rtt.TheVariants.{NoPacketsAcked, Known}
 use Rattle.flows.specs.declared.flow.FlowProperties.{FlowProperties}
 use Rattle.flows.specs.declared.sums.FlowSum.{FlowSum}
 use Rattle.flows.specs.Sums.{summed_of, average_rtt, refusal}
@@ -57,19 +57,19 @@ abbrev with_lists : ℕ → ℕ → Float → Float → ℕ → List Float → L
 with_lists n k rate rtt L xs ys = sums (n + L) (k + length ys) (go_on n rate xs) (go_on k rtt ys)
 
 -- one RTT more, or none
-one-rtt : (n k L : ℕ) (rate rtt x : Float) (xs ys : List Float) (r : Rtt)
+one-rtt : (n k L : ℕ) (rate rtt x : Float) (xs ys : List Float) (r : Result TimeSpan NoPacketsAcked)
     → with_lists (n + 1) (rtt_count_of k r) (summed_of n rate x) (rtt_sum_of k (span_of rtt) r).0 L xs ys ≡ with_lists n k rate rtt (suc L) (x ∷ xs) (with_rtt r ys)
-one-rtt n k L rate rtt x xs ys NoPacketsAcked =
+one-rtt n k L rate rtt x xs ys (Err no_packets_acked) =
     let count : n + 1 + L ≡ n + suc L = omega arith in
     ap (λ (z : ℕ). sums z (k + length ys) (go_on n rate (x ∷ xs)) (go_on k rtt ys)) count
-one-rtt n k L rate rtt x xs ys (Known t) =
+one-rtt n k L rate rtt x xs ys (Ok t) =
     let count : n + 1 + L ≡ n + suc L = omega arith in
     let known : k + 1 + length ys ≡ k + suc (length ys) = omega arith in
     ap₂ (λ (z w : ℕ). sums z w (go_on n rate (x ∷ xs)) (go_on k rtt (t.0 ∷ ys))) count known
 
-rtt_count_le : (k n : ℕ) (r : Rtt) → k ≤ n → rtt_count_of k r ≤ n + 1
-rtt_count_le k n NoPacketsAcked h = omega arith
-rtt_count_le k n (Known t) h = omega arith
+rtt_count_le : (k n : ℕ) (r : Result TimeSpan NoPacketsAcked) → k ≤ n → rtt_count_of k r ≤ n + 1
+rtt_count_le k n (Err no_packets_acked) h = omega arith
+rtt_count_le k n (Ok t) h = omega arith
 
 -- one turn of the fold, by whether there is room and the member is fit
 step : (n k : ℕ) (rate rtt : Float) (f : FlowProperties) (fs : List FlowProperties) → k ≤ n → n ≤ 65536

@@ -1,12 +1,10 @@
 -- Document 01, "Meter" and row 17 of "Stops": the mean over a list of flow records. Definitions only.
-use Rattle.std.specs.Prelude.{ℕ, ◌+◌, Bool, true, ◌&&◌, cond, List, [], ◌∷◌, length, leb, ltb, eqb, Float}
+use Rattle.std.specs.Prelude.{ℕ, ◌+◌, Bool, true, ◌&&◌, cond, List, [], ◌∷◌, length, leb, ltb, eqb, Float, Result, Ok, Err}
 use Rattle.std.specs.Float.{binary64}
 use Rattle.std.specs.Float.Ieee.{add}
 use Rattle.quantities.specs.declared.time_span.TimeSpan.{TimeSpan}
 use Rattle.quantities.specs.Doubles.{zero_f, power, in_range}
 use Rattle.quantities.specs.Units.{span_of, rate_of, rate_over}
-use Rattle.flows.specs.declared.flow.Rtt.{Rtt}
-use Rattle.flows.specs.declared.flow.Rtt.TheVariants.{NoPacketsAcked, Known}
 use Rattle.flows.specs.declared.flow.FlowProperties.{FlowProperties}
 use Rattle.flows.specs.declared.sums.FlowSum.{FlowSum}
 use Rattle.flows.specs.declared.sums.Mean.{Mean}
@@ -16,9 +14,9 @@ use Rattle.flows.specs.Sums.{summed_of, average_rtt, FlowAnswer, refusal}
 -- ---- the mean of a list
 
 -- the rate, and the RTT where present, in 0..2^60
-abbrev pub rtt_fit : Rtt → Bool
-rtt_fit NoPacketsAcked = true
-rtt_fit (Known t) = in_range zero_f (power 60) t.0
+abbrev pub rtt_fit : Result TimeSpan NoPacketsAcked → Bool
+rtt_fit (Err no_packets_acked) = true
+rtt_fit (Ok t) = in_range zero_f (power 60) t.0
 
 unfoldable pub member_fit : FlowProperties → Bool
 member_fit f = in_range zero_f (power 60) f.throughput.0 && rtt_fit f.rtt
@@ -32,9 +30,9 @@ abbrev pub rates : List FlowProperties → List Float
 rates [] = []
 rates (f ∷ fs) = f.throughput.0 ∷ rates fs
 
-abbrev pub with_rtt : Rtt → List Float → List Float
-with_rtt NoPacketsAcked xs = xs
-with_rtt (Known t) xs = t.0 ∷ xs
+abbrev pub with_rtt : Result TimeSpan NoPacketsAcked → List Float → List Float
+with_rtt (Err no_packets_acked) xs = xs
+with_rtt (Ok t) xs = t.0 ∷ xs
 
 abbrev pub rtts : List FlowProperties → List Float
 rtts [] = []
@@ -68,13 +66,13 @@ start_of = record { number = 0; count = 0; throughput = rate_of zero_f; rtt_coun
 abbrev pub refused_sum : FlowSum
 refused_sum = record { number = 17; count = 0; throughput = rate_of zero_f; rtt_count = 0; rtt = span_of zero_f }
 
-abbrev pub rtt_count_of : ℕ → Rtt → ℕ
-rtt_count_of n NoPacketsAcked = n
-rtt_count_of n (Known t) = n + 1
+abbrev pub rtt_count_of : ℕ → Result TimeSpan NoPacketsAcked → ℕ
+rtt_count_of n (Err no_packets_acked) = n
+rtt_count_of n (Ok t) = n + 1
 
-abbrev pub rtt_sum_of : ℕ → TimeSpan → Rtt → TimeSpan
-rtt_sum_of n sum NoPacketsAcked = sum
-rtt_sum_of n sum (Known t) = span_of (summed_of n sum.0 t.0)
+abbrev pub rtt_sum_of : ℕ → TimeSpan → Result TimeSpan NoPacketsAcked → TimeSpan
+rtt_sum_of n sum (Err no_packets_acked) = sum
+rtt_sum_of n sum (Ok t) = span_of (summed_of n sum.0 t.0)
 
 unfoldable pub added_of : FlowSum → FlowProperties → FlowSum
 added_of s f =

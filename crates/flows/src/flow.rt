@@ -11,5 +11,5 @@ pub enum Rtt {
 #[derive(Clone, Copy)]
 pub struct FlowProperties {
     pub throughput: InformationRate,
-    pub rtt: Rtt,
+    pub rtt: Result<TimeSpan, NoPacketsAcked>,
 }

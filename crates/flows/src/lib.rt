@@ -5,5 +5,5 @@
 pub mod flow;
 pub mod sums;
 
-pub use flow::{FlowProperties, Rtt};
+pub use flow::{FlowProperties, NoPacketsAcked};
 pub use sums::{FlowSum, Mean};

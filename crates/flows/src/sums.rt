@@ -2,7 +2,7 @@ ghost use Rattle.std.specs.Prelude.{◌≡◌};
 ghost use Rattle.flows.specs.Sums.{summed_of, average_rtt};
 ghost use Rattle.flows.specs.Average.{member_fit, start_of, refused_sum, added_of, mean_of, told_mean};
 
-use crate::flow::{FlowProperties, Rtt};
+use crate::flow::{FlowProperties, NoPacketsAcked};
 use quantities::float::in_range;
 use quantities::{InformationRate, TimeSpan};
 
@@ -59,7 +59,7 @@ impl FlowSum {
         let throughput = InformationRate(summed(count, self.throughput.0, next.throughput.0));
         let known = next.rtt;
         match known {
-            Rtt::NoPacketsAcked => {
+            Err(NoPacketsAcked) => {
                 let rtt = self.rtt;
                 FlowSum {
                     number: 0,
@@ -69,7 +69,7 @@ impl FlowSum {
                     rtt,
                 }
             }
-            Rtt::Known(value) => {
+            Ok(value) => {
                 let rtt = TimeSpan(summed(rtt_count, self.rtt.0, value.0));
                 FlowSum {
                     number: 0,
@@ -107,13 +107,13 @@ pub fn summed(count: u32, sum: f64, next: f64) -> f64
 }
 
 // The mean of so many round-trip times with this sum; none of none.
-pub fn average_rtt(count: u32, sum: TimeSpan) -> Rtt
+pub fn average_rtt(count: u32, sum: TimeSpan) -> Result<TimeSpan, NoPacketsAcked>
     ensures { result ≡ average_rtt count sum }
 {
     if count == 0 {
-        Rtt::NoPacketsAcked
+        Err(NoPacketsAcked)
     } else {
-        Rtt::Known(sum.div(count))
+        Ok(sum.div(count))
     }
 }
 
@@ -126,8 +126,8 @@ fn member_fit(f: FlowProperties) -> bool
     }
     let known = f.rtt;
     match known {
-        Rtt::NoPacketsAcked => true,
-        Rtt::Known(value) => in_range(0.0, 1152921504606846976.0, value.0),
+        Err(NoPacketsAcked) => true,
+        Ok(value) => in_range(0.0, 1152921504606846976.0, value.0),
     }
 }
 

@@ -8,7 +8,7 @@ use draws::Rng;
 use link::{Line, Packet, Ring, Transit, Waiting};
 use meters::AverageFlowMeter;
 use quantities::{Information, TimeSpan};
-use remy::{Head, Next, Simulation};
+use remy::{Head, Simulation};
 use script::{absent, number};
 use sender::{Enabled, LossySender, SenderState};
 use toggler::{Queued, Toggler};
@@ -52,9 +52,9 @@ fn head(text: &[u8], at: usize, st: Simulation) -> Simulation {
 
 fn next_at(text: &[u8], at: usize, k: usize) -> Next {
     if absent(text, at, k) {
-        Next::None
+        None
     } else {
-        Next::Part(size(text, at, k))
+        Some(size(text, at, k))
     }
 }
 

@@ -3,12 +3,12 @@ ghost use Rattle.std.specs.Prelude.{◌<◌, ◌≤◌};
 
 use crate::sink::{Sink, decimal, double, put};
 use draws::Rng;
-use flows::{FlowProperties, Rtt};
+use flows::{FlowProperties, NoPacketsAcked};
 use link::{Line, Packet, Ring, Transit, Waiting};
 use meters::{AverageFlowMeter, FlowRead};
-use quantities::{OptionTime, Time};
+use quantities::{Time};
 use reading::SenderFlow;
-use remy::{Head, Mark, Name, Next, ReturnLine, Simulation, TickRecord};
+use remy::{Head, Mark, Simulation, TickRecord};
 use sender::{LossySender, SenderState};
 use toggler::{Queued, Toggler};
 
@@ -42,10 +42,10 @@ fn mark(out: Sink, mark: Mark) -> Sink {
     }
 }
 
-fn name(out: Sink, name: Name) -> Sink {
+fn name(out: Sink, name: Option<(u32, u32)>) -> Sink {
     match name {
-        Name::None => put(out, b"-"),
-        Name::Packet(sender, seq) => pair(out, sender as u64, seq as u64),
+        None => put(out, b"-"),
+        Some((sender, seq)) => pair(out, sender as u64, seq as u64),
     }
 }
 
@@ -61,7 +61,7 @@ pub(crate) fn state(out: Sink, st: Simulation) -> Sink {
     let network = st.network;
     let back = network.back;
     match back {
-        ReturnLine::None => rest(a, st, n, 2 * n),
+        None => rest(a, st, n, 2 * n),
         _ => rest(line(put(a, b" return"), st, 1), st, n, 2 * n + 2),
     }
 }
@@ -102,10 +102,10 @@ fn rest(out: Sink, st: Simulation, n: usize, last: usize) -> Sink
     queue(put(a, b" queue="), places, last)
 }
 
-fn next(out: Sink, next: Next) -> Sink {
+fn next(out: Sink, next: Option<usize>) -> Sink {
     match next {
-        Next::None => put(out, b"-"),
-        Next::Part(k) => decimal(out, k as u64),
+        None => put(out, b"-"),
+        Some(k) => decimal(out, k as u64),
     }
 }
 
@@ -307,10 +307,10 @@ fn properties(out: Sink, flow: FlowProperties) -> Sink {
     put(b, b"\n")
 }
 
-fn span_if_any(out: Sink, rtt: Rtt) -> Sink {
+fn span_if_any(out: Sink, rtt: Result<TimeSpan, NoPacketsAcked>) -> Sink {
     match rtt {
-        Rtt::NoPacketsAcked => put(out, b"-"),
-        Rtt::Known(span) => double(out, span.0),
+        Err(NoPacketsAcked) => put(out, b"-"),
+        Ok(span) => double(out, span.0),
     }
 }
 
@@ -319,10 +319,10 @@ fn words(out: Sink, rng: Rng) -> Sink {
     pair(put(pair(out, w[0], w[1]), b":"), w[2], w[3])
 }
 
-pub(crate) fn maybe(out: Sink, time: OptionTime) -> Sink {
+pub(crate) fn maybe(out: Sink, time: Option<Time>) -> Sink {
     match time {
-        OptionTime::None => put(out, b"-"),
-        OptionTime::Some(t) => moment(out, t),
+        None => put(out, b"-"),
+        Some(t) => moment(out, t),
     }
 }
 

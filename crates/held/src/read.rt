@@ -2,10 +2,10 @@
 ghost use Rattle.std.specs.Prelude.{◌<◌};
 
 use draws::ContinuousDistribution;
-use link::{Limit, LineValues};
+use link::{LineValues};
 use quantities::float::from_bits;
-use quantities::{OptionTime, Time, TimeSpan};
-use remy::{RemyNetwork, ReturnLine};
+use quantities::{Time, TimeSpan};
+use remy::{RemyNetwork};
 use script::{absent, number};
 use sender::Policy;
 
@@ -51,17 +51,17 @@ fn line_at(text: &[u8], at: usize, k: usize) -> LineValues
 
 fn limit_at(text: &[u8], at: usize, k: usize) -> Limit {
     if absent(text, at, k) {
-        Limit::None
+        None
     } else {
-        Limit::Bits(number(text, at, k))
+        Some(number(text, at, k))
     }
 }
 
-fn back_at(text: &[u8], at: usize) -> ReturnLine {
+fn back_at(text: &[u8], at: usize) -> Option<LineValues> {
     if number(text, at, 31) == 0 {
-        ReturnLine::None
+        None
     } else {
-        ReturnLine::Line(line_at(text, at, 32))
+        Some(line_at(text, at, 32))
     }
 }
 
@@ -87,11 +87,11 @@ fn policy_at(text: &[u8], at: usize) -> Policy {
 }
 
 // A field that may be absent, as a time.
-pub(crate) fn time_if_any(text: &[u8], at: usize, k: usize) -> OptionTime {
+pub(crate) fn time_if_any(text: &[u8], at: usize, k: usize) -> Option<Time> {
     if absent(text, at, k) {
-        OptionTime::None
+        None
     } else {
-        OptionTime::Some(moment(text, at, k))
+        Some(moment(text, at, k))
     }
 }
 

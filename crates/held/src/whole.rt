@@ -3,8 +3,8 @@
 use crate::print::{pair, state};
 use crate::sink::{Sink, decimal, double, folded, hex, put};
 use draws::ContinuousDistribution;
-use link::{Limit, Line, LineValues, Ring};
-use remy::{RemyNetwork, ReturnLine, Simulation};
+use link::{Line, LineValues, Ring};
+use remy::{RemyNetwork, Simulation};
 use sender::Policy;
 
 pub(crate) fn digest(st: Simulation) -> u64 {
@@ -36,7 +36,7 @@ fn all_in_use(n: RemyNetwork) -> RemyNetwork {
     let policy = n.policy;
     RemyNetwork {
         line,
-        back: ReturnLine::Line(line),
+        back: Some(line),
         bits,
         senders: 16,
         on,
@@ -75,10 +75,10 @@ fn network_fields(out: Sink, n: RemyNetwork) -> Sink {
     policy_fields(times_fields(times_fields(b, on), off), policy)
 }
 
-fn back_fields(out: Sink, back: ReturnLine) -> Sink {
+fn back_fields(out: Sink, back: Option<LineValues>) -> Sink {
     match back {
-        ReturnLine::None => put(out, b"-"),
-        ReturnLine::Line(line) => line_fields(out, line),
+        None => put(out, b"-"),
+        Some(line) => line_fields(out, line),
     }
 }
 
@@ -99,10 +99,10 @@ fn sizes_fields(out: Sink, bits: [u64; 16]) -> Sink {
     o
 }
 
-fn limit_field(out: Sink, limit: Limit) -> Sink {
+fn limit_field(out: Sink, limit: Option<u64>) -> Sink {
     match limit {
-        Limit::None => put(out, b"-"),
-        Limit::Bits(n) => hex(out, n),
+        None => put(out, b"-"),
+        Some(n) => hex(out, n),
     }
 }
 

@@ -1,17 +1,14 @@
 -- The lines of a run (document 01, "The text program"), from a record and from a simulation. Definitions only.
 -- A double is written by its bits, and a NaN by 7ff8000000000000.
-use Rattle.std.specs.Prelude.{ℕ, zero, suc, ◌+◌, ◌-◌, ◌≡◌, cond, List, [], ◌∷◌, ◌++◌, eqb, ltb}
+use Rattle.std.specs.Prelude.{ℕ, zero, suc, ◌+◌, ◌-◌, ◌≡◌, cond, List, [], ◌∷◌, ◌++◌, eqb, ltb, Option, Result, Some, None, Ok, Err}
 use Rattle.std.specs.Float.{binary64}
 use Rattle.std.specs.Float.Ieee.{to_bits}
+use Rattle.quantities.specs.declared.time_span.TimeSpan.{TimeSpan}
 use Rattle.quantities.specs.declared.time.Time.{Time}
-use Rattle.flows.specs.declared.flow.Rtt.{Rtt}
-use Rattle.flows.specs.declared.flow.Rtt.TheVariants.{NoPacketsAcked, Known}
 use Rattle.meters.specs.declared.meter.AverageFlowMeter.{AverageFlowMeter}
 use Rattle.flows.specs.Sums.{FlowAnswer}
 use Rattle.meters.specs.Meter.{read_of}
 use Rattle.sender.specs.declared.lossy.LossySender.{LossySender}
-use Rattle.remy.specs.declared.simulation.Name.{Name}
-use Rattle.remy.specs.declared.simulation.Name.TheVariants as Name
 use Rattle.remy.specs.declared.simulation.Simulation.{Simulation}
 use Rattle.remy.specs.declared.simulation.TickRecord.{TickRecord}
 use Rattle.remy.specs.State.{sender_at, meter_at}
@@ -25,9 +22,9 @@ use Rattle.printer.specs.declared.Measured.TheVariants as Measured
 use Rattle.printer.specs.Printing.{record_text, stop_text, flow_text}
 
 -- a packet by its sender and sequence
-abbrev pub named_of : Name → Named
-named_of Name.None = Named.None
-named_of (Name.Packet sender sequence) = Named.Packet sender sequence
+abbrev pub named_of : Option (ℕ × ℕ) → Named
+named_of None = Named.None
+named_of (Some (sender , sequence)) = Named.Packet sender sequence
 
 -- a tick's record: its clock, part, mark by its letter, packet, and the packet started
 unfoldable pub record_line : TickRecord → List ℕ
@@ -41,9 +38,9 @@ stop_line number s = stop_text number (to_bits binary64 s.head.clock.0.0)
 abbrev pub rate_measured : FlowAnswer → Measured
 rate_measured a = cond (eqb a.number 0) (Measured.Bits (to_bits binary64 a.throughput.0)) Measured.None
 
-abbrev pub span_measured : Rtt → Measured
-span_measured NoPacketsAcked = Measured.None
-span_measured (Known t) = Measured.Bits (to_bits binary64 t.0)
+abbrev pub span_measured : Result TimeSpan NoPacketsAcked → Measured
+span_measured (Err no_packets_acked) = Measured.None
+span_measured (Ok t) = Measured.Bits (to_bits binary64 t.0)
 
 abbrev pub rtt_measured : FlowAnswer → Measured
 rtt_measured a = cond (eqb a.number 0) (span_measured a.rtt) Measured.None

@@ -12,7 +12,7 @@ use meters::{AverageFlowMeter, FlowRead};
 use printer::{Measured, Named, Put, flow_line, record_line, stop_line};
 use quantities::Time;
 use quantities::float::to_bits;
-use remy::{Mark, Name, Simulation, TickRecord};
+use remy::{Mark, Simulation, TickRecord};
 use sender::LossySender;
 
 // A mark as its letter.
@@ -36,12 +36,12 @@ fn letter(mark: Mark) -> u8
     }
 }
 
-fn named(name: Name) -> Named
+fn named(name: Option<(u32, u32)>) -> Named
     ensures { result ≡ named_of name }
 {
     match name {
-        Name::None => Named::None,
-        Name::Packet(sender, seq) => Named::Packet(sender, seq),
+        None => Named::None,
+        Some((sender, seq)) => Named::Packet(sender, seq),
     }
 }
 
@@ -86,8 +86,8 @@ fn rtt_of(read: FlowRead) -> Measured
         FlowRead::Properties(flow) => {
             let rtt = flow.rtt;
             match rtt {
-                Rtt::NoPacketsAcked => Measured::None,
-                Rtt::Known(span) => Measured::Bits(to_bits(span.0)),
+                Err(NoPacketsAcked) => Measured::None,
+                Ok(span) => Measured::Bits(to_bits(span.0)),
             }
         }
         FlowRead::NeverActive => Measured::None,

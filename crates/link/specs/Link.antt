@@ -1,10 +1,8 @@
 -- Document 01, "Link", and rows 12 and 13 of "Stops". Definitions only. A line's own values (limit, loss, delay, rate) are arguments, so that they hold for any line.
 -- The bits of a packet that arrives are an argument; a packet that starts has those that it carries (document 02, K1).
-use Rattle.std.specs.Prelude.{ℕ, ◌+◌, ◌-◌, Bool, true, false, ◌&&◌, cond, leb, eqb, Float}
+use Rattle.std.specs.Prelude.{ℕ, ◌+◌, ◌-◌, Bool, true, false, ◌&&◌, cond, leb, eqb, Float, Option, Some, None}
 use Rattle.std.specs.Float.Ieee.{lt, le, eq}
 use Rattle.quantities.specs.declared.time.Time.{Time}
-use Rattle.quantities.specs.declared.time.OptionTime.{OptionTime}
-use Rattle.quantities.specs.declared.time.OptionTime.TheVariants.{None, Some}
 use Rattle.quantities.specs.declared.time_span.TimeSpan.{TimeSpan}
 use Rattle.quantities.specs.declared.information.Information.{Information}
 use Rattle.quantities.specs.declared.information_rate.InformationRate.{InformationRate}
@@ -12,22 +10,19 @@ use Rattle.quantities.specs.Units.{amount_of, amount_over_rate, span_after, late
 use Rattle.draws.specs.Draws.{unit_of}
 use Rattle.link.specs.declared.packet.Waiting.{Waiting}
 use Rattle.link.specs.declared.packet.Transit.{Transit}
-use Rattle.link.specs.declared.link.Limit.{Limit}
-use Rattle.link.specs.declared.link.Limit.TheVariants as L
 use Rattle.link.specs.declared.link.Line.{Line}
 use Rattle.link.specs.declared.link.Arrival.{Arrival}
 use Rattle.link.specs.declared.link.Left.TheVariants as Left
 use Rattle.link.specs.declared.link.Delivered.{Delivered}
-use Rattle.link.specs.declared.link.Begun.TheVariants as Begun
 use Rattle.link.specs.declared.link.Transmitted.{Transmitted}
 use Rattle.link.specs.Ring.{places, pushed, popped}
 
 -- ---- arrival
 
 -- Arrival: dropped exactly if a limit is present and waiting bits + packet bits exceed it.
-unfoldable pub admits : Limit → Information → Information → Bool
-admits L.None waiting bits = true
-admits (L.Bits most) waiting bits = leb (waiting.0 + bits.0) most
+unfoldable pub admits : Option ℕ → Information → Information → Bool
+admits None waiting bits = true
+admits (Some most) waiting bits = leb (waiting.0 + bits.0) most
 
 -- the line with one packet more waiting
 abbrev pub admitted : Line → Information → Line
@@ -41,7 +36,7 @@ admitted l bits =
     }
 
 -- 12: an admitted packet finds 512 waiting
-unfoldable pub receive_of : Limit → Line → Information → Arrival
+unfoldable pub receive_of : Option ℕ → Line → Information → Arrival
 receive_of limit l bits =
     cond (admits limit l.buffer_contains bits)
     (cond (leb places l.waiting.count) (record { number = 12; admitted = false; line = l }) (record { number = 0; admitted = true; line = admitted l bits }))
@@ -50,15 +45,15 @@ receive_of limit l bits =
 -- ---- next time
 
 -- if any wait, max(clock, earliest start)
-unfoldable pub next_transmit : Line → Time → OptionTime
+unfoldable pub next_transmit : Line → Time → Option Time
 next_transmit l clock = cond (eqb l.waiting.count 0) None (Some (latest_of clock l.earliest_transmit))
 
 -- if any on the line, the first due time
-unfoldable pub next_deliver : Line → Time → OptionTime
+unfoldable pub next_deliver : Line → Time → Option Time
 next_deliver l due = cond (eqb l.on_line.count 0) None (Some due)
 
 -- Next time: the earlier of the two.
-unfoldable pub next_tick : Line → Time → Time → OptionTime
+unfoldable pub next_tick : Line → Time → Time → Option Time
 next_tick l clock due = earliest_opt_of (next_transmit l clock) (next_deliver l due)
 
 -- ---- tick: first the packet that leaves
@@ -104,7 +99,7 @@ started_line l bits free =
     }
 
 abbrev pub not_started : Line → ℕ → Transmitted
-not_started l n = record { number = n; begun = Begun.Nobody; line = l }
+not_started l n = record { number = n; begun = None; line = l }
 
 -- earliest start = clock + bits/rate
 abbrev pub next_start : Time → Information → InformationRate → Time
@@ -116,7 +111,7 @@ due_time clock delay = span_after clock delay
 
 abbrev pub starts_at : Line → Waiting → Time → Time → Transmitted
 starts_at l first free due =
-    record { number = 0; begun = Begun.Starts (record { packet = first.packet; due = due }); line = started_line l first.bits free }
+    record { number = 0; begun = Some (record { packet = first.packet; due = due }); line = started_line l first.bits free }
 
 -- clock ≥ earliest start and one waits
 unfoldable pub is_free : Line → Time → Bool

@@ -8,7 +8,7 @@ pub mod packet;
 pub mod ring;
 
 pub use link::{
-    Arrival, Begun, Delivered, Left, Limit, Line, LineValues, Transmitted, next_tick, receive,
+    Arrival, Delivered, Left, Line, LineValues, Transmitted, next_tick, receive,
     try_deliver, try_transmit,
 };
 pub use packet::{Packet, Transit, Waiting};

@@ -5,7 +5,7 @@ use crate::packet::{Packet, Transit, Waiting};
 use crate::ring::Ring;
 use draws::Rng;
 use quantities::time::{earliest_opt, latest};
-use quantities::{Information, InformationRate, OptionTime, Time, TimeSpan};
+use quantities::{Information, InformationRate, Time, TimeSpan};
 
 // The most bits that may wait, if there is a limit.
 #[derive(Clone, Copy)]
@@ -21,7 +21,7 @@ pub struct LineValues {
     pub delay: f64,
     pub rate: f64,
     pub loss: f64,
-    pub limit: Limit,
+    pub limit: Option<u64>,
 }
 
 // What a link holds beside its packets: when the next packet may start, the waiting bits, the rings
@@ -68,17 +68,17 @@ pub enum Begun {
 #[derive(Clone, Copy)]
 pub struct Transmitted {
     pub number: u32,
-    pub begun: Begun,
+    pub begun: Option<Transit>,
     pub line: Line,
 }
 
 // Whether a packet is admitted while so many bits wait.
-pub(crate) fn admits_bits(limit: Limit, waiting: Information, bits: Information) -> bool
+pub(crate) fn admits_bits(limit: Option<u64>, waiting: Information, bits: Information) -> bool
     ensures { result ≡ admits limit waiting bits }
 {
     match limit {
-        Limit::None => true,
-        Limit::Bits(most) => {
+        None => true,
+        Some(most) => {
             if bits.0 > most {
                 return false;
             }
@@ -90,7 +90,7 @@ pub(crate) fn admits_bits(limit: Limit, waiting: Information, bits: Information)
 // A packet arrives.
 //
 // A helper for the crates above, and no entry point: the caller shows that the waiting bits fit.
-pub fn receive(limit: Limit, line: Line, bits: Information) -> Arrival
+pub fn receive(limit: Option<u64>, line: Line, bits: Information) -> Arrival
     requires { line.buffer_contains.0 + bits.0 < 2 ^ 64 }
     ensures { result ≡ receive_of limit line bits }
 {
@@ -131,32 +131,32 @@ pub fn receive(limit: Limit, line: Line, bits: Information) -> Arrival
 
 // The link's own next time. `due` is the first due time, and is read only where a packet is on the
 // line.
-pub fn next_tick(line: Line, clock: Time, due: Time) -> OptionTime
+pub fn next_tick(line: Line, clock: Time, due: Time) -> Option<Time>
     ensures { result ≡ next_tick line clock due }
 {
     earliest_opt(next_transmit(line, clock), next_deliver(line, due))
 }
 
 // When the first waiting packet may start, if one waits.
-fn next_transmit(line: Line, clock: Time) -> OptionTime
+fn next_transmit(line: Line, clock: Time) -> Option<Time>
     ensures { result ≡ next_transmit line clock }
 {
     let waiting = line.waiting;
     if waiting.count == 0 {
-        return OptionTime::None;
+        return None;
     }
-    OptionTime::Some(latest(clock, line.earliest_transmit))
+    Some(latest(clock, line.earliest_transmit))
 }
 
 // When the first packet on the line is due, if one is there.
-fn next_deliver(line: Line, due: Time) -> OptionTime
+fn next_deliver(line: Line, due: Time) -> Option<Time>
     ensures { result ≡ next_deliver line due }
 {
     let on_line = line.on_line;
     if on_line.count == 0 {
-        return OptionTime::None;
+        return None;
     }
-    OptionTime::Some(due)
+    Some(due)
 }
 
 // The first packet on the line leaves, if it is due. A sample is drawn whenever one leaves.
@@ -231,14 +231,14 @@ pub fn try_transmit(
     if !is_free(line, clock) {
         return Transmitted {
             number: 0,
-            begun: Begun::Nobody,
+            begun: None,
             line,
         };
     }
     if on_line.count >= 512 {
         return Transmitted {
             number: 13,
-            begun: Begun::Nobody,
+            begun: None,
             line,
         };
     }
@@ -259,7 +259,7 @@ pub fn try_transmit(
     let packet = first.packet;
     Transmitted {
         number: 0,
-        begun: Begun::Starts(Transit { packet, due }),
+        begun: Some(Transit { packet, due }),
         line,
     }
 }

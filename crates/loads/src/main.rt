@@ -8,7 +8,7 @@
 // description has a part in. The file stdout beside src/ holds what the Rust oracle answers.
 #![tactic(auto)]
 
-use description::{Description, Distribution, Limit, Policy, ReadDescription};
+use description::{Description, Distribution, Policy, ReadDescription};
 use script::input::read_full;
 use script::number;
 use std::io;
@@ -116,10 +116,10 @@ fn described(sum: u64, d: Description) -> u64 {
     with(with(course, d.seed), d.ticks as u64)
 }
 
-fn limited(sum: u64, limit: Limit) -> u64 {
+fn limited(sum: u64, limit: Option<u64>) -> u64 {
     match limit {
-        Limit::None => with(sum, 0),
-        Limit::Bits(bits) => with(with(sum, 1), bits),
+        None => with(sum, 0),
+        Some(bits) => with(with(sum, 1), bits),
     }
 }
 

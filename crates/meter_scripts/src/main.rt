@@ -19,11 +19,11 @@
 ghost use Rattle.std.specs.Prelude.{◌≡◌, ◌≤◌, take};
 ghost use Rattle.flows.specs.Average.{average_of, told_mean};
 
-use flows::{FlowProperties, FlowSum, Mean, Rtt};
+use flows::{FlowProperties, FlowSum, Mean, NoPacketsAcked};
 use lent::{average, record_lending, switch_lending};
 use meters::{AverageFlowMeter, FlowRead, Metered, Reception};
 use quantities::float::{from_bits, to_bits};
-use quantities::{Information, InformationRate, OptionTime, Time, TimeSpan};
+use quantities::{Information, InformationRate, Time, TimeSpan};
 use script::input::read_full;
 use script::{absent, byte_at, next_line, number};
 use std::io;
@@ -47,7 +47,7 @@ fn main(rt: HostRuntime) -> io::Result<()> {
 fn run(rt: &impl Print, text: &[u8]) -> io::Result<()> {
     let flow = FlowProperties {
         throughput: InformationRate(0.0),
-        rtt: Rtt::NoPacketsAcked,
+        rtt: Err(NoPacketsAcked),
     };
     let mut bench = Bench {
         meter: AverageFlowMeter::new_disabled(),
@@ -168,11 +168,11 @@ fn made_by_hand(text: &[u8], at: usize) -> AverageFlowMeter {
     }
 }
 
-fn start_at(text: &[u8], at: usize) -> OptionTime {
+fn start_at(text: &[u8], at: usize) -> Option<Time> {
     if absent(text, at, 1) {
-        OptionTime::None
+        None
     } else {
-        OptionTime::Some(Time(TimeSpan(double(text, at, 1))))
+        Some(Time(TimeSpan(double(text, at, 1))))
     }
 }
 
@@ -194,11 +194,11 @@ fn repeated(bench: Bench, flow: FlowProperties, count: u64) -> Bench {
     all
 }
 
-fn rtt_at(text: &[u8], at: usize) -> Rtt {
+fn rtt_at(text: &[u8], at: usize) -> Result<TimeSpan, NoPacketsAcked> {
     if absent(text, at, 1) {
-        Rtt::NoPacketsAcked
+        Err(NoPacketsAcked)
     } else {
-        Rtt::Known(TimeSpan(double(text, at, 1)))
+        Ok(TimeSpan(double(text, at, 1)))
     }
 }
 
@@ -215,8 +215,8 @@ fn told(
     print_double(rt, meter.total_time.0)?;
     let start = meter.current_start;
     match start {
-        OptionTime::None => print_absent(rt)?,
-        OptionTime::Some(time) => print_double(rt, time.0.0)?,
+        None => print_absent(rt)?,
+        Some(time) => print_double(rt, time.0.0)?,
     }
     print_word(rt, meter.total.0)?;
     print_word(rt, meter.records as u64)?;
@@ -287,13 +287,13 @@ fn same_meter(a: AverageFlowMeter, b: AverageFlowMeter) -> bool {
     let start = a.current_start;
     let other = b.current_start;
     match start {
-        OptionTime::None => match other {
-            OptionTime::None => true,
-            OptionTime::Some(_) => false,
+        None => match other {
+            None => true,
+            Some(_) => false,
         },
-        OptionTime::Some(time) => match other {
-            OptionTime::None => false,
-            OptionTime::Some(at) => same_double(time.0.0, at.0.0),
+        Some(time) => match other {
+            None => false,
+            Some(at) => same_double(time.0.0, at.0.0),
         },
     }
 }
@@ -318,13 +318,13 @@ fn same_flow(a: FlowProperties, b: FlowProperties) -> bool {
     let rtt = a.rtt;
     let other = b.rtt;
     match rtt {
-        Rtt::NoPacketsAcked => match other {
-            Rtt::NoPacketsAcked => true,
-            Rtt::Known(_) => false,
+        Err(NoPacketsAcked) => match other {
+            Err(NoPacketsAcked) => true,
+            Ok(_) => false,
         },
-        Rtt::Known(span) => match other {
-            Rtt::NoPacketsAcked => false,
-            Rtt::Known(value) => same_double(span.0, value.0),
+        Ok(span) => match other {
+            Err(NoPacketsAcked) => false,
+            Ok(value) => same_double(span.0, value.0),
         },
     }
 }
@@ -338,8 +338,8 @@ fn print_flow(rt: &impl Print, flow: FlowProperties) -> io::Result<()> {
     print_double(rt, flow.throughput.0)?;
     let rtt = flow.rtt;
     match rtt {
-        Rtt::NoPacketsAcked => print_absent(rt)?,
-        Rtt::Known(span) => print_double(rt, span.0)?,
+        Err(NoPacketsAcked) => print_absent(rt)?,
+        Ok(span) => print_double(rt, span.0)?,
     }
     end_line(rt)
 }

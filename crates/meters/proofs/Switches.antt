@@ -1,11 +1,10 @@
 -- The one switch gives what the two switches of the Rust gave, at true and at false. Assumes nothing.
+use Rattle.std.proofs.Common.{Some, None}
 use mathlib.Core.Path.{◌≡◌, refl}
 use mathlib.Core.Bool.{Bool, true, false, not, ◌&&◌, beq, cond}
 use mathlib.Core.Option.{Option, none, some}
 use lib.Ieee.{le}
 use Rattle.quantities.specs.declared.time.Time.{Time}
-use Rattle.quantities.specs.declared.time.OptionTime.{OptionTime}
-use Rattle.quantities.specs.declared.time.OptionTime.TheVariants.{None, Some}
 use Rattle.meters.specs.declared.meter.AverageFlowMeter.{AverageFlowMeter}
 use Rattle.meters.specs.declared.meter.Metered.{Metered}
 use Rattle.meters.specs.Meter.{not_before, within_limits, ready, taken, unchanged, is_on, turned, switched_of}
@@ -13,7 +12,7 @@ use Rattle.meters.specs.Switches.{Timer, timer_enable, timer_disable, answered, 
 
 module _ (m : AverageFlowMeter) (t : Time) where
   -- the one switch and one of the two, at any start, whether meter and time are within their limits or not
-  abbrev switched : Bool → Bool → OptionTime → Metered
+  abbrev switched : Bool → Bool → Option Time → Metered
   switched on pass start = cond (pass && not_before start t && not (beq on (is_on start))) (taken (turned m start t)) (unchanged m)
 
   abbrev before : Bool → Option Timer → Metered
@@ -23,7 +22,7 @@ module _ (m : AverageFlowMeter) (t : Time) where
   asked_again true x = refl
   asked_again false x = refl
 
-  on : (pass : Bool) (start : OptionTime) → switched true pass start ≡ before pass (timer_enable m.total_time start t)
+  on : (pass : Bool) (start : Option Time) → switched true pass start ≡ before pass (timer_enable m.total_time start t)
   on false start = refl
   on true None = refl
   on true (Some s) = asked_again (le s.0.0 t.0.0) _
@@ -32,7 +31,7 @@ module _ (m : AverageFlowMeter) (t : Time) where
   ended true timer = refl
   ended false timer = refl
 
-  off : (pass : Bool) (start : OptionTime) → switched false pass start ≡ before pass (timer_disable m.total_time start t)
+  off : (pass : Bool) (start : Option Time) → switched false pass start ≡ before pass (timer_disable m.total_time start t)
   off false start = refl
   off true None = refl
   off true (Some s) = ended (le s.0.0 t.0.0) _

@@ -1,11 +1,9 @@
 -- Document 01, "Meter" and the rows 16 and 18 of "Stops": the average flow meter. Definitions only.
-use Rattle.std.specs.Prelude.{ℕ, ◌+◌, ◌*◌, Bool, true, false, not, ◌&&◌, cond, leb, ltb}
+use Rattle.std.specs.Prelude.{ℕ, ◌+◌, ◌*◌, Bool, true, false, not, ◌&&◌, cond, leb, ltb, Option, Some, None}
 use Rattle.std.specs.Bool.{beq}
 use Rattle.std.specs.Float.{binary64}
 use Rattle.std.specs.Float.Ieee.{mul, le, eq}
 use Rattle.quantities.specs.declared.time.Time.{Time}
-use Rattle.quantities.specs.declared.time.OptionTime.{OptionTime}
-use Rattle.quantities.specs.declared.time.OptionTime.TheVariants.{None, Some}
 use Rattle.quantities.specs.declared.time_span.TimeSpan.{TimeSpan}
 use Rattle.quantities.specs.declared.information.Information.{Information}
 use Rattle.quantities.specs.Doubles.{zero_f, power, largest, in_range}
@@ -24,7 +22,7 @@ new_meter = record { total_time = span_of zero_f; current_start = None; total = 
 -- ---- 18: what a held meter must not be
 
 -- a start not in 0..2^41
-unfoldable pub start_fit : OptionTime → Bool
+unfoldable pub start_fit : Option Time → Bool
 start_fit None = true
 start_fit (Some t) = in_range zero_f (power 41) t.0.0
 
@@ -48,7 +46,7 @@ meter_fit m =
 -- ---- 18: what a call must not ask
 
 -- time before its start, where it is on
-abbrev pub not_before : OptionTime → Time → Bool
+abbrev pub not_before : Option Time → Time → Bool
 not_before None t = true
 not_before (Some s) t = le s.0.0 t.0.0
 
@@ -69,12 +67,12 @@ taken m = record { number = 0; meter = m }
 abbrev pub unchanged : AverageFlowMeter → Metered
 unchanged m = record { number = 18; meter = m }
 
-abbrev pub is_on : OptionTime → Bool
+abbrev pub is_on : Option Time → Bool
 is_on None = false
 is_on (Some s) = true
 
 -- switched at a time: on from it, or off with the time since its start added to the total
-abbrev pub turned : AverageFlowMeter → OptionTime → Time → AverageFlowMeter
+abbrev pub turned : AverageFlowMeter → Option Time → Time → AverageFlowMeter
 turned m None t =
     record { total_time = m.total_time; current_start = Some t; total = m.total; records = m.records; rtt_sum = m.rtt_sum }
 turned m (Some s) t =
@@ -112,7 +110,7 @@ received_of m p t = recorded_of m p.«data» p.rtt t
 unfoldable pub enabled_time : AverageFlowMeter → Time → TimeSpan
 enabled_time m t = enabled_from m.total_time m.current_start
   where
-    enabled_from : TimeSpan → OptionTime → TimeSpan
+    enabled_from : TimeSpan → Option Time → TimeSpan
     enabled_from total None = span_sum total (span_of zero_f)
     enabled_from total (Some s) = span_sum total (since t s)
 

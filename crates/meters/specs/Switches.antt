@@ -1,10 +1,8 @@
 -- Document 02, K8: what switching a meter gave before. FlowForge's meters.rs has two switches, `set_enabled` and `set_disabled`; here they are, written from that file, with document 01's refusals (row 18 of "Stops"). Definitions only.
-use Rattle.std.specs.Prelude.{◌≡◌, true, false, cond}
+use Rattle.std.specs.Prelude.{◌≡◌, true, false, cond, Some, None}
 use Rattle.std.proofs.Math.Option.{Option, none, some}
 use Rattle.std.specs.Float.Ieee.{le}
 use Rattle.quantities.specs.declared.time.Time.{Time}
-use Rattle.quantities.specs.declared.time.OptionTime.{OptionTime}
-use Rattle.quantities.specs.declared.time.OptionTime.TheVariants.{None, Some}
 use Rattle.quantities.specs.declared.time_span.TimeSpan.{TimeSpan}
 use Rattle.quantities.specs.Units.{since, span_sum}
 use Rattle.meters.specs.declared.meter.AverageFlowMeter.{AverageFlowMeter}
@@ -14,17 +12,17 @@ use Rattle.meters.specs.Meter.{within_limits, switched_of}
 -- ---- `Timer`, which both switches reach through `InfoRateMeter` and which alone they read and change
 pub record Timer : Type 0 where
   pub total_time : TimeSpan
-  pub current_start : OptionTime
+  pub current_start : Option Time
 
 -- What a call makes of a timer's total time and start; none where it panics. Times compare as document 01's do: the Rust has -0 below 0.
 
 -- `enable`: panics where there is a start; else the time is the start
-abbrev pub timer_enable : TimeSpan → OptionTime → Time → Option Timer
+abbrev pub timer_enable : TimeSpan → Option Time → Time → Option Timer
 timer_enable total (Some start) time = none
 timer_enable total None time = some (record { total_time = total; current_start = Some time })
 
 -- `disable`: panics where there is no start, and at a time before it; else the time since the start is added to the total, and there is no start
-abbrev pub timer_disable : TimeSpan → OptionTime → Time → Option Timer
+abbrev pub timer_disable : TimeSpan → Option Time → Time → Option Timer
 timer_disable total None time = none
 timer_disable total (Some start) time =
     cond (le start.0.0 time.0.0) (some (record { total_time = span_sum total (since time start); current_start = None })) none

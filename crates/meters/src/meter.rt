@@ -4,7 +4,7 @@ ghost use Rattle.meters.specs.Meter.{new_meter, start_fit, meter_fit, ready, ena
 use flows::FlowProperties;
 use flows::sums::{average_rtt, summed};
 use quantities::float::in_range;
-use quantities::{Information, OptionTime, Time, TimeSpan};
+use quantities::{Information, Time, TimeSpan};
 
 // What a sender's flow did so far: how long it was enabled before it was last switched off, since
 // when it is on, the bits counted, how many packets were counted, and the sum of their round-trip
@@ -12,7 +12,7 @@ use quantities::{Information, OptionTime, Time, TimeSpan};
 #[derive(Clone, Copy)]
 pub struct AverageFlowMeter {
     pub total_time: TimeSpan,
-    pub current_start: OptionTime,
+    pub current_start: Option<Time>,
     pub total: Information,
     pub records: u32,
     pub rtt_sum: TimeSpan,
@@ -50,7 +50,7 @@ impl AverageFlowMeter {
     {
         AverageFlowMeter {
             total_time: TimeSpan(0.0),
-            current_start: OptionTime::None,
+            current_start: None,
             total: Information(0),
             records: 0,
             rtt_sum: TimeSpan(0.0),
@@ -73,7 +73,7 @@ impl AverageFlowMeter {
         let rtt_sum = self.rtt_sum;
         let start = self.current_start;
         match start {
-            OptionTime::None => {
+            None => {
                 if !on {
                     return Metered {
                         number: 18,
@@ -81,7 +81,7 @@ impl AverageFlowMeter {
                     };
                 }
                 let total_time = self.total_time;
-                let current_start = OptionTime::Some(time);
+                let current_start = Some(time);
                 let meter = AverageFlowMeter {
                     total_time,
                     current_start,
@@ -91,7 +91,7 @@ impl AverageFlowMeter {
                 };
                 Metered { number: 0, meter }
             }
-            OptionTime::Some(begin) => {
+            Some(begin) => {
                 if on {
                     return Metered {
                         number: 18,
@@ -99,7 +99,7 @@ impl AverageFlowMeter {
                     };
                 }
                 let total_time = self.total_time.add(time.sub(begin));
-                let current_start = OptionTime::None;
+                let current_start = None;
                 let meter = AverageFlowMeter {
                     total_time,
                     current_start,
@@ -213,8 +213,8 @@ impl AverageFlowMeter {
         }
         let start = self.current_start;
         match start {
-            OptionTime::None => true,
-            OptionTime::Some(begin) => begin.0.0 <= time.0.0,
+            None => true,
+            Some(begin) => begin.0.0 <= time.0.0,
         }
     }
 
@@ -225,17 +225,17 @@ impl AverageFlowMeter {
         let total_time = self.total_time;
         let start = self.current_start;
         match start {
-            OptionTime::None => total_time.add(TimeSpan(0.0)),
-            OptionTime::Some(begin) => total_time.add(time.sub(begin)),
+            None => total_time.add(TimeSpan(0.0)),
+            Some(begin) => total_time.add(time.sub(begin)),
         }
     }
 }
 
-fn start_fit(start: OptionTime) -> bool
+fn start_fit(start: Option<Time>) -> bool
     ensures { result ≡ start_fit start }
 {
     match start {
-        OptionTime::None => true,
-        OptionTime::Some(begin) => in_range(0.0, 2199023255552.0, begin.0.0),
+        None => true,
+        Some(begin) => in_range(0.0, 2199023255552.0, begin.0.0),
     }
 }

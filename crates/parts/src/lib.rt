@@ -9,9 +9,9 @@ ghost use Rattle.remy.specs.Build.{new_line, new_sender, blank_packet, blank_wai
 ghost use Rattle.parts.specs.Parts.{told_parts};
 
 use draws::{ContinuousDistribution, Rng};
-use link::{Limit, Line, LineValues, Packet, Ring, Transit, Waiting};
+use link::{Line, LineValues, Packet, Ring, Transit, Waiting};
 use quantities::{Information, Time, TimeSpan};
-use remy::{RemyNetwork, ReturnLine};
+use remy::{RemyNetwork};
 use sender::{LossySender, Policy, SenderState};
 use toggler::{Toggler, create};
 
@@ -166,8 +166,8 @@ pub fn back_words(network: RemyNetwork, root: Rng) -> Rng
 {
     let back = network.back;
     match back {
-        ReturnLine::None => blank_words(),
-        ReturnLine::Line(_) => {
+        None => blank_words(),
+        Some(_) => {
             let c = root.create_child();
             c.child
         }
@@ -183,12 +183,12 @@ pub fn empty_network() -> RemyNetwork
         delay: 0.0,
         rate: 1.0,
         loss: 0.0,
-        limit: Limit::None,
+        limit: None,
     };
     let bits = [1; 16];
     RemyNetwork {
         line,
-        back: ReturnLine::None,
+        back: None,
         bits,
         senders: 0,
         on: ContinuousDistribution::Always(1.0),

@@ -1,4 +1,5 @@
 -- The sums, and the new times of ticks, computed; and for each clause of what is said of the clock something that it refuses, by that clause alone. Assumes nothing.
+use Rattle.std.proofs.Common.{Option, Some, None}
 use mathlib.Core.Path.{◌≡◌, refl, sym, ap, ◌∙◌}
 use mathlib.Core.Logic.{◌⊎◌, inl, inr}
 use mathlib.Core.Bool.{Bool, true, false, true≢false}
@@ -7,8 +8,6 @@ use native.Mathlib.Omega.{arith}
 use lib.Ieee.{Float, eq, fits, is_nan}
 use Rattle.quantities.specs.Doubles.{power}
 use Rattle.quantities.specs.declared.time.Time.{Time}
-use Rattle.quantities.specs.declared.time.OptionTime.{OptionTime}
-use Rattle.quantities.specs.declared.time.OptionTime.TheVariants.{None, Some}
 use Rattle.remy.specs.NewTimes.{new_times}
 use Rattle.remy.specs.History.{ticks}
 use Rattle.remy.proofs.Lists.{All, all_member}
@@ -34,7 +33,7 @@ is_seven = eq (odd 7)
 is_four : Float → Bool
 is_four = eq (power 2)
 
-timer_is_seven : OptionTime → Bool
+timer_is_seven : Option Time → Bool
 timer_is_seven None = false
 timer_is_seven (Some t) = is_seven t.0.0
 

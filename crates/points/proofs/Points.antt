@@ -1,4 +1,5 @@
 -- The points hold: each is computed. Assumes nothing.
+use Rattle.std.proofs.Common.{Some}
 use mathlib.Core.Path.{◌≡◌, refl, sym, ap}
 use mathlib.Core.Bool.{true, false}
 use mathlib.Core.List.{[], ◌∷◌}
@@ -9,7 +10,6 @@ use lib.Ieee.Bits.{is_true, is_false}
 use native.Mathlib.Omega.{arith}
 use lib.Ieee.{Float, round, units, odd, size, span, climb, add, mul, sub, sum, div, lt, le, eq, of_int, neg}
 use Rattle.quantities.specs.declared.time.Time.{Time}
-use Rattle.quantities.specs.declared.time.OptionTime.TheVariants.{Some}
 use Rattle.quantities.specs.Doubles.{zero_f, power}
 use Rattle.quantities.specs.Units.{amount_of}
 use Rattle.quantities.proofs.Order.{lt_irrefl}
@@ -21,7 +21,6 @@ use Rattle.draws.proofs.Redraw.{again}
 use Rattle.meters.specs.Meter.{new_meter, start_fit, meter_fit, ready, switched_of, enabled_time, read_of}
 use Rattle.link.specs.declared.packet.Packet.{Packet}
 use Rattle.link.specs.declared.packet.Transit.{Transit}
-use Rattle.link.specs.declared.link.Limit.TheVariants as Limit
 use Rattle.link.specs.declared.link.Line.{Line}
 use Rattle.link.specs.declared.link.Left.TheVariants as Left
 use Rattle.sender.specs.declared.lossy.Policy.{Policy}
@@ -75,15 +74,15 @@ unfolding try_deliver
 lost l clock front due = rw (due, below_one_lem l.rng)
 
 empty-admits : (l : Line) → l.waiting.count ≡ 0 → l.buffer_contains ≡ amount_of 0
-    → receive_of (Limit.Bits 8) l (amount_of 8) ≡ record { number = 0; admitted = true; line = admitted l (amount_of 8) }
+    → receive_of (Some 8) l (amount_of 8) ≡ record { number = 0; admitted = true; line = admitted l (amount_of 8) }
 unfolding receive_of admits
 empty-admits l none bits = rw (none, bits)
 
-full_drops : (l : Line) → l.buffer_contains ≡ amount_of 8 → receive_of (Limit.Bits 8) l (amount_of 8) ≡ dropped l
+full_drops : (l : Line) → l.buffer_contains ≡ amount_of 8 → receive_of (Some 8) l (amount_of 8) ≡ dropped l
 unfolding receive_of admits
 full_drops l bits = rw bits
 
-limit_0_drops : (l : Line) (bits : ℕ) → 1 ≤ bits → receive_of (Limit.Bits 0) l (amount_of bits) ≡ dropped l
+limit_0_drops : (l : Line) (bits : ℕ) → 1 ≤ bits → receive_of (Some 0) l (amount_of bits) ≡ dropped l
 unfolding receive_of admits
 limit_0_drops l bits h = rw (lt-leb (l.buffer_contains.0 + bits) 0 (omega arith))
 

@@ -1,4 +1,5 @@
 -- No stop of a network and no clause of fit reads the bits of places from the number of senders on, and no clause what is held past the network's lines. Assumes nothing.
+use Rattle.std.proofs.Common.{Option, Some, None}
 use mathlib.Core.Path.{◌≡◌, refl, sym, ap, ap₂, ◌∙◌}
 use mathlib.Core.Bool.{Bool, true, false, not, ◌&&◌, ◌||◌}
 use mathlib.Core.List.{List, [], ◌∷◌, map}
@@ -7,8 +8,7 @@ use native.Mathlib.Omega.{arith}
 use borrow.Author.Tests.{ltb-true}
 use lib.Dec.{leb, ltb, eqb}
 use lib.ListN.{get_or}
-use Rattle.quantities.specs.declared.time.OptionTime.{OptionTime}
-use Rattle.quantities.specs.declared.time.OptionTime.TheVariants.{None, Some}
+use Rattle.quantities.specs.declared.time.Time.{Time}
 use Rattle.draws.specs.Generator.{all_zero}
 use Rattle.link.specs.declared.packet.Waiting.{Waiting}
 use Rattle.link.specs.declared.packet.Transit.{Transit}
@@ -19,8 +19,6 @@ use Rattle.sender.specs.declared.lossy.SenderState.{SenderState}
 use Rattle.sender.specs.declared.lossy.SenderState.TheVariants as State
 use Rattle.toggler.specs.Queue.{queue_places}
 use Rattle.remy.specs.declared.network.RemyNetwork.{RemyNetwork}
-use Rattle.remy.specs.declared.simulation.Next.{Next}
-use Rattle.remy.specs.declared.simulation.Next.TheVariants as Next
 use Rattle.remy.specs.declared.simulation.Simulation.{Simulation}
 use Rattle.remy.specs.Network.{up_to, between, network_stop}
 use Rattle.remy.specs.State.{line_count, Role, link, bouncer, sender, toggler, nobody, no_waiting, no_transit, line_at, sender_at, meter_at, queued_at, front_of, waiting_items, waiting_packets, on_line_items, on_line_packets, total_bits}
@@ -130,7 +128,7 @@ module _ (s : Simulation) (x : List ℕ) (lines : List Line) (waiting : List Wai
       rw (own, carried_same ys (both_r first rest e) (both_r (carries s y) (every (carries s) ys) c))
 
   -- tests that go by cases, and read neither
-  queued_same : (o : OptionTime) → held_queued other o ≡ held_queued s o
+  queued_same : (o : Option Time) → held_queued other o ≡ held_queued s o
   queued_same None = refl
   queued_same (Some t) = refl
 
@@ -138,7 +136,7 @@ module _ (s : Simulation) (x : List ℕ) (lines : List Line) (waiting : List Wai
   started-same State.WaitingForEnable = refl
   started-same (State.Enabled e) = refl
 
-  start-same : (o : OptionTime) → meter_start_fit other o ≡ meter_start_fit s o
+  start-same : (o : Option Time) → meter_start_fit other o ≡ meter_start_fit s o
   start-same None = refl
   start-same (Some t) = refl
 
@@ -193,14 +191,14 @@ module _ (s : Simulation) (x : List ℕ) (lines : List Line) (waiting : List Wai
     unfolding own_time
     part_same k = role_at (λ role. own_time other role ≡ own_time s role) s.network k (λ role there e. own_same role there) refl
 
-    next-same : (y : Next) → next_fit other y ≡ next_fit s y
-    next-same Next.None = refl
-    next-same (Next.Part j) = ap (same_time (Some s.head.clock)) (part_same j)
+    next-same : (y : Option ℕ) → next_fit other y ≡ next_fit s y
+    next-same None = refl
+    next-same (Some j) = ap (same_time (Some s.head.clock)) (part_same j)
 
     queue-same : queue_fit other ≡ queue_fit s
     unfolding queue_fit
     queue-same =
-        let place : (ℕ → OptionTime) → ℕ → Bool = λ own k. is_next s.head.next k || same_time (queued_at s k) (own k) in
+        let place : (ℕ → Option Time) → ℕ → Bool = λ own k. is_next s.head.next k || same_time (queued_at s k) (own k) in
         ap₂ (λ (a b : Bool). a && b) (next-same s.head.next)
         (up_to-same queue_places (place (next_time_of other)) (place (next_time_of s)) (λ k h. ap (λ o. is_next s.head.next k || same_time (queued_at s k) o) (part_same k)))
 

@@ -1,18 +1,15 @@
 -- Document 02, K6, computed: the sums at the ends of their ranges, why the clock has to be a double, the new times of ticks, and for each clause of what is said of the
 -- clock something that it refuses. As one list of claims.
-use Rattle.std.specs.Prelude.{◌≡◌, true, false, List, [], ◌∷◌, ℕ, zero, suc, negsuc, set, Float}
+use Rattle.std.specs.Prelude.{◌≡◌, true, false, List, [], ◌∷◌, ℕ, zero, suc, negsuc, set, Float, None}
 use Rattle.std.specs.Float.{inf, fin}
 use Rattle.std.specs.Float.Ieee.{le}
 use Rattle.quantities.specs.declared.time.Time.{Time}
 use Rattle.quantities.specs.Doubles.{zero_f, power}
 use Rattle.quantities.specs.Units.{time_of, span_of, span_after}
 use Rattle.quantities.specs.NewTime.{FineTime, Double}
-use Rattle.link.specs.declared.link.Limit.TheVariants as Limit
 use Rattle.sender.specs.declared.lossy.Policy.TheVariants.{Held, Timed}
-use Rattle.remy.specs.declared.network.ReturnLine.TheVariants as Back
 use Rattle.remy.specs.declared.network.RemyNetwork.{RemyNetwork}
 use Rattle.remy.specs.declared.simulation.Mark.TheVariants as Mark
-use Rattle.remy.specs.declared.simulation.Name.TheVariants as Name
 use Rattle.remy.specs.declared.simulation.Simulation.{Simulation}
 use Rattle.remy.specs.declared.simulation.TickRecord.{TickRecord}
 use Rattle.remy.specs.State.{with_on_line}
@@ -58,8 +55,8 @@ finer = fin false 9007199254740993 (negsuc 52)
 abbrev pub timed_worked : RemyNetwork
 timed_worked =
     record {
-      line = values_from worked.line.delay worked.line.rate worked.line.loss Limit.None;
-      back = Back.None;
+      line = values_from worked.line.delay worked.line.rate worked.line.loss None;
+      back = None;
       bits = worked.bits;
       senders = worked.senders;
       on = worked.on;
@@ -71,11 +68,11 @@ timed_worked =
 
 -- a record at this time
 abbrev pub recorded_at : Time → TickRecord
-recorded_at t = record { time = t; part = 0; mark = Mark.None; packet = Name.None; started = Name.None }
+recorded_at t = record { time = t; part = 0; mark = Mark.None; packet = None; started = None }
 
 -- a delay of 0 and one packet, which waits for the link at 1
 unfoldable pub sent_one : Simulation
-sent_one = after (ticks 2) (build_of (network_from zero_f (power 3) zero_f Limit.None (bits_all 8) 1 always always (Held 1)) 1).simulation
+sent_one = after (ticks 2) (build_of (network_from zero_f (power 3) zero_f None (bits_all 8) 1 always always (Held 1)) 1).simulation
 
 -- its clock no double, and an array of it without places: neither is a state of code
 abbrev pub untimely : Simulation

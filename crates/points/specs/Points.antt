@@ -1,8 +1,7 @@
 -- Document 01, "Points on the grid": the points marked ●, as one list of claims about the definitions, in the paper's order.
-use Rattle.std.specs.Prelude.{◌≡◌, true, false, List, [], ◌∷◌, ℕ, zero, suc, ◌^◌, ◌≤◌, negsuc}
+use Rattle.std.specs.Prelude.{◌≡◌, true, false, List, [], ◌∷◌, ℕ, zero, suc, ◌^◌, ◌≤◌, negsuc, Some}
 use Rattle.std.specs.Float.{fin}
 use Rattle.quantities.specs.declared.time.Time.{Time}
-use Rattle.quantities.specs.declared.time.OptionTime.TheVariants.{Some}
 use Rattle.quantities.specs.Doubles.{zero_f, power}
 use Rattle.quantities.specs.Units.{time_of, amount_of}
 use Rattle.draws.specs.declared.generator.Rng.{Rng}
@@ -13,7 +12,6 @@ use Rattle.draws.specs.Draws.{sample_of, unit_of, draw_of, redraw}
 use Rattle.meters.specs.Meter.{new_meter, switched_of, read_of}
 use Rattle.link.specs.declared.packet.Packet.{Packet}
 use Rattle.link.specs.declared.packet.Transit.{Transit}
-use Rattle.link.specs.declared.link.Limit.TheVariants as Limit
 use Rattle.link.specs.declared.link.Line.{Line}
 use Rattle.link.specs.declared.link.Arrival.{Arrival}
 use Rattle.link.specs.declared.link.Left.TheVariants as Left
@@ -86,11 +84,11 @@ points =
     ∷ ((l : Line) (clock : Time) (front : Transit) → is_due l clock front ≡ true → (try_deliver l clock front (power 0)).left ≡ Left.Lost front.packet)
     -- Limit 8: empty admits 8 bits,
     ∷ ((l : Line) → l.waiting.count ≡ 0 → l.buffer_contains ≡ amount_of 0
-    → receive_of (Limit.Bits 8) l (amount_of 8) ≡ record { number = 0; admitted = true; line = admitted l (amount_of 8) })
+    → receive_of (Some 8) l (amount_of 8) ≡ record { number = 0; admitted = true; line = admitted l (amount_of 8) })
     -- 8 waiting drops.
-    ∷ ((l : Line) → l.buffer_contains ≡ amount_of 8 → receive_of (Limit.Bits 8) l (amount_of 8) ≡ dropped l)
+    ∷ ((l : Line) → l.buffer_contains ≡ amount_of 8 → receive_of (Some 8) l (amount_of 8) ≡ dropped l)
     -- Limit 0 drops all: every packet has a bit.
-    ∷ ((l : Line) (bits : ℕ) → 1 ≤ bits → receive_of (Limit.Bits 0) l (amount_of bits) ≡ dropped l)
+    ∷ ((l : Line) (bits : ℕ) → 1 ≤ bits → receive_of (Some 0) l (amount_of bits) ≡ dropped l)
     -- Parts 0 and 1 both at 1: part 0.
     ∷ (pick_of (at_one ∷ at_one ∷ []) ≡ record { time = Some one; part = 0 })
     -- Sent exactly at started: counted.

@@ -1,34 +1,31 @@
 -- Document 01, "Stops", rows 1 to 7, and document 02, K4, 20: both ends of each range and what lies next outside, as one list of claims. Each network differs from a good one in one field.
-use Rattle.std.specs.Prelude.{◌≡◌, true, false, List, [], ◌∷◌, ℕ, pos, negsuc, replicate, set, Float}
+use Rattle.std.specs.Prelude.{◌≡◌, true, false, List, [], ◌∷◌, ℕ, pos, negsuc, replicate, set, Float, Option, Some, None}
 use Rattle.std.specs.Float.{nan, inf, fin, binary64}
 use Rattle.std.specs.Float.Ieee.{of_bits}
 use Rattle.quantities.specs.Doubles.{zero_f, power}
 use Rattle.draws.specs.declared.distribution.ContinuousDistribution.{ContinuousDistribution}
 use Rattle.draws.specs.declared.distribution.ContinuousDistribution.TheVariants.{Always, Uniform}
-use Rattle.link.specs.declared.link.Limit.{Limit}
-use Rattle.link.specs.declared.link.Limit.TheVariants as Limit
 use Rattle.link.specs.declared.link.LineValues.{LineValues}
 use Rattle.sender.specs.declared.lossy.Policy.{Policy}
 use Rattle.sender.specs.declared.lossy.Policy.TheVariants.{Held, Grown, Timed}
-use Rattle.remy.specs.declared.network.ReturnLine.TheVariants as Back
 use Rattle.remy.specs.declared.network.RemyNetwork.{RemyNetwork}
 use Rattle.remy.specs.Network.{network_stop}
 use Rattle.remy.specs.Build.{not_built, build_of}
 
 -- ---- the good network, and one field of it anew
 
-abbrev pub values_from : Float → Float → Float → Limit → LineValues
+abbrev pub values_from : Float → Float → Float → Option ℕ → LineValues
 values_from delay rate loss limit = record { delay = delay; rate = rate; loss = loss; limit = limit }
 
 -- without a return line
-abbrev pub network_from : Float → Float → Float → Limit → List ℕ → ℕ → ContinuousDistribution → ContinuousDistribution → Policy → RemyNetwork
+abbrev pub network_from : Float → Float → Float → Option ℕ → List ℕ → ℕ → ContinuousDistribution → ContinuousDistribution → Policy → RemyNetwork
 network_from delay rate loss limit bits senders on off policy =
-    record { line = values_from delay rate loss limit; back = Back.None; bits = bits; senders = senders; on = on; off = off; policy = policy }
+    record { line = values_from delay rate loss limit; back = None; bits = bits; senders = senders; on = on; off = off; policy = policy }
 
 -- a network with a return line of these values
 abbrev pub returned : RemyNetwork → LineValues → RemyNetwork
 returned n v =
-    record { line = n.line; back = Back.Line v; bits = n.bits; senders = n.senders; on = n.on; off = n.off; policy = n.policy }
+    record { line = n.line; back = Some v; bits = n.bits; senders = n.senders; on = n.on; off = n.off; policy = n.policy }
 
 -- so many bits for every sender
 abbrev pub bits_all : ℕ → List ℕ
@@ -38,58 +35,58 @@ abbrev pub always : ContinuousDistribution
 always = Always (power 0)
 
 abbrev pub good : RemyNetwork
-good = network_from (power 0) (power 3) zero_f Limit.None (bits_all 8) 1 always always (Held 3)
+good = network_from (power 0) (power 3) zero_f None (bits_all 8) 1 always always (Held 3)
 
 abbrev pub with_delay : Float → RemyNetwork
-with_delay x = network_from x (power 3) zero_f Limit.None (bits_all 8) 1 always always (Held 3)
+with_delay x = network_from x (power 3) zero_f None (bits_all 8) 1 always always (Held 3)
 
 abbrev pub with_rate : Float → RemyNetwork
-with_rate x = network_from (power 0) x zero_f Limit.None (bits_all 8) 1 always always (Held 3)
+with_rate x = network_from (power 0) x zero_f None (bits_all 8) 1 always always (Held 3)
 
 abbrev pub with_loss : Float → RemyNetwork
-with_loss x = network_from (power 0) (power 3) x Limit.None (bits_all 8) 1 always always (Held 3)
+with_loss x = network_from (power 0) (power 3) x None (bits_all 8) 1 always always (Held 3)
 
-abbrev pub with_limit : Limit → RemyNetwork
+abbrev pub with_limit : Option ℕ → RemyNetwork
 with_limit x = network_from (power 0) (power 3) zero_f x (bits_all 8) 1 always always (Held 3)
 
 abbrev pub with_bits : ℕ → RemyNetwork
-with_bits x = network_from (power 0) (power 3) zero_f Limit.None (bits_all x) 1 always always (Held 3)
+with_bits x = network_from (power 0) (power 3) zero_f None (bits_all x) 1 always always (Held 3)
 
 -- these bits, the first of so many senders' own
 abbrev pub with_sizes : List ℕ → ℕ → RemyNetwork
-with_sizes x n = network_from (power 0) (power 3) zero_f Limit.None x n always always (Held 3)
+with_sizes x n = network_from (power 0) (power 3) zero_f None x n always always (Held 3)
 
 abbrev pub with_sender_count : ℕ → RemyNetwork
-with_sender_count x = network_from (power 0) (power 3) zero_f Limit.None (bits_all 8) x always always (Held 3)
+with_sender_count x = network_from (power 0) (power 3) zero_f None (bits_all 8) x always always (Held 3)
 
 abbrev pub with_on : ContinuousDistribution → RemyNetwork
-with_on x = network_from (power 0) (power 3) zero_f Limit.None (bits_all 8) 1 x always (Held 3)
+with_on x = network_from (power 0) (power 3) zero_f None (bits_all 8) 1 x always (Held 3)
 
 abbrev pub with_off : ContinuousDistribution → RemyNetwork
-with_off x = network_from (power 0) (power 3) zero_f Limit.None (bits_all 8) 1 always x (Held 3)
+with_off x = network_from (power 0) (power 3) zero_f None (bits_all 8) 1 always x (Held 3)
 
 abbrev pub with_policy : Policy → RemyNetwork
-with_policy x = network_from (power 0) (power 3) zero_f Limit.None (bits_all 8) 1 always always x
+with_policy x = network_from (power 0) (power 3) zero_f None (bits_all 8) 1 always always x
 
 -- with a return line of these values
 abbrev pub with_back : LineValues → RemyNetwork
 with_back x = returned good x
 
 abbrev pub with_back_delay : Float → RemyNetwork
-with_back_delay x = with_back (values_from x (power 3) zero_f Limit.None)
+with_back_delay x = with_back (values_from x (power 3) zero_f None)
 
 abbrev pub with_back_rate : Float → RemyNetwork
-with_back_rate x = with_back (values_from (power 0) x zero_f Limit.None)
+with_back_rate x = with_back (values_from (power 0) x zero_f None)
 
 abbrev pub with_back_loss : Float → RemyNetwork
-with_back_loss x = with_back (values_from (power 0) (power 3) x Limit.None)
+with_back_loss x = with_back (values_from (power 0) (power 3) x None)
 
-abbrev pub with_back_limit : Limit → RemyNetwork
+abbrev pub with_back_limit : Option ℕ → RemyNetwork
 with_back_limit x = with_back (values_from (power 0) (power 3) zero_f x)
 
 -- values of which none is in its range
 abbrev pub unruly : LineValues
-unruly = values_from nan nan nan (Limit.Bits 1125899906842625)
+unruly = values_from nan nan nan (Some 1125899906842625)
 
 -- the numbers of a network with this on time, and of one with this off time
 abbrev pub stops_with : ContinuousDistribution → List ℕ
@@ -173,10 +170,10 @@ ranges =
     ∷ (network_stop (with_loss above_one) ≡ 3)
     ∷ (network_stop (with_loss nan) ≡ 3)
     -- 4: limit present and above 2^50 bits
-    ∷ (network_stop (with_limit Limit.None) ≡ 0)
-    ∷ (network_stop (with_limit (Limit.Bits 0)) ≡ 0)
-    ∷ (network_stop (with_limit (Limit.Bits 1125899906842624)) ≡ 0)
-    ∷ (network_stop (with_limit (Limit.Bits 1125899906842625)) ≡ 4)
+    ∷ (network_stop (with_limit None) ≡ 0)
+    ∷ (network_stop (with_limit (Some 0)) ≡ 0)
+    ∷ (network_stop (with_limit (Some 1125899906842624)) ≡ 0)
+    ∷ (network_stop (with_limit (Some 1125899906842625)) ≡ 4)
     -- 5: packet bits not in 1..2^24,
     ∷ (network_stop (with_bits 1) ≡ 0)
     ∷ (network_stop (with_bits 16777216) ≡ 0)
@@ -233,9 +230,9 @@ ranges =
     ∷ (network_stop (with_policy (Timed 0 least_gap)) ≡ 7)
     ∷ (network_stop (with_policy (Timed 65 least_gap)) ≡ 7)
     -- Of several the lowest; and all but the bits are tested where no sender is.
-    ∷ (network_stop (network_from nan nan nan Limit.None (bits_all 0) 17 always always (Held 0)) ≡ 1)
-    ∷ (network_stop (network_from zero_f (power 0) zero_f Limit.None (bits_all 0) 1 (Always nan) always (Held 0)) ≡ 5)
-    ∷ (network_stop (network_from zero_f (power 0) zero_f Limit.None (bits_all 0) 0 always (Always nan) (Held 0)) ≡ 6)
+    ∷ (network_stop (network_from nan nan nan None (bits_all 0) 17 always always (Held 0)) ≡ 1)
+    ∷ (network_stop (network_from zero_f (power 0) zero_f None (bits_all 0) 1 (Always nan) always (Held 0)) ≡ 5)
+    ∷ (network_stop (network_from zero_f (power 0) zero_f None (bits_all 0) 0 always (Always nan) (Held 0)) ≡ 6)
     -- 20: a return line outside 1 to 4: its delay,
     ∷ (network_stop (with_back_delay zero_f) ≡ 0)
     ∷ (network_stop (with_back_delay minus_zero) ≡ 0)
@@ -260,15 +257,15 @@ ranges =
     ∷ (network_stop (with_back_loss above_one) ≡ 20)
     ∷ (network_stop (with_back_loss nan) ≡ 20)
     -- or limit.
-    ∷ (network_stop (with_back_limit Limit.None) ≡ 0)
-    ∷ (network_stop (with_back_limit (Limit.Bits 0)) ≡ 0)
-    ∷ (network_stop (with_back_limit (Limit.Bits 1125899906842624)) ≡ 0)
-    ∷ (network_stop (with_back_limit (Limit.Bits 1125899906842625)) ≡ 20)
+    ∷ (network_stop (with_back_limit None) ≡ 0)
+    ∷ (network_stop (with_back_limit (Some 0)) ≡ 0)
+    ∷ (network_stop (with_back_limit (Some 1125899906842624)) ≡ 0)
+    ∷ (network_stop (with_back_limit (Some 1125899906842625)) ≡ 20)
     -- It is tested after 1 to 7, and where no sender is;
     ∷ (network_stop (returned (with_delay nan) unruly) ≡ 1)
     ∷ (network_stop (returned (with_rate nan) unruly) ≡ 2)
     ∷ (network_stop (returned (with_loss nan) unruly) ≡ 3)
-    ∷ (network_stop (returned (with_limit (Limit.Bits 1125899906842625)) unruly) ≡ 4)
+    ∷ (network_stop (returned (with_limit (Some 1125899906842625)) unruly) ≡ 4)
     ∷ (network_stop (returned (with_bits 0) unruly) ≡ 5)
     ∷ (network_stop (returned (with_off (Always nan)) unruly) ≡ 6)
     ∷ (network_stop (returned (with_policy (Held 0)) unruly) ≡ 7)

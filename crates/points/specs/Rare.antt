@@ -1,12 +1,9 @@
 -- Document 01, "Sender", and the empty simulation of "Stops": what only a state made by hand or a rare run shows, as one list of claims about the definitions
 -- that a tick and a build call. Each answer is given whole.
-use Rattle.std.specs.Prelude.{◌≡◌, List, [], ◌∷◌, ℕ, replicate}
+use Rattle.std.specs.Prelude.{◌≡◌, List, [], ◌∷◌, ℕ, replicate, Option, Some, None}
 use Rattle.quantities.specs.declared.time.Time.{Time}
-use Rattle.quantities.specs.declared.time.OptionTime.{OptionTime}
-use Rattle.quantities.specs.declared.time.OptionTime.TheVariants.{None, Some}
 use Rattle.draws.specs.declared.distribution.ContinuousDistribution.TheVariants.{Always}
 use Rattle.draws.specs.Generator.{from_words}
-use Rattle.link.specs.declared.link.Limit.TheVariants as Limit
 use Rattle.sender.specs.declared.lossy.Policy.{Policy}
 use Rattle.sender.specs.declared.lossy.Policy.TheVariants.{Held, Grown, Timed}
 use Rattle.sender.specs.declared.lossy.Enabled.{Enabled}
@@ -15,7 +12,6 @@ use Rattle.sender.specs.declared.lossy.LossySender.{LossySender}
 use Rattle.sender.specs.declared.lossy.Returned.{Returned}
 use Rattle.sender.specs.declared.lossy.Heard.TheVariants.{Counted}
 use Rattle.sender.specs.Sender.{tick_timer, tick_send, returned_of}
-use Rattle.remy.specs.declared.network.ReturnLine.TheVariants as Back
 use Rattle.remy.specs.Build.{empty_network, empty_simulation, build_of}
 use Rattle.points.specs.Points.{one}
 use Rattle.points.specs.Ranges.{double}
@@ -30,7 +26,7 @@ abbrev pub at_three : Time
 at_three = moment_of 0x4008000000000000
 
 -- greatest ack, window, timer
-abbrev pub on_with : ℕ → ℕ → OptionTime → Enabled
+abbrev pub on_with : ℕ → ℕ → Option Time → Enabled
 on_with ack window timer = record { started = one; greatest_ack = ack; cwnd = window; timer = timer }
 
 abbrev pub on_sender : ℕ → ℕ → LossySender
@@ -74,8 +70,8 @@ rare =
     ∷ (empty_network.line.delay ≡ double 0x0000000000000000)
     ∷ (empty_network.line.rate ≡ double 0x3ff0000000000000)
     ∷ (empty_network.line.loss ≡ double 0x0000000000000000)
-    ∷ (empty_network.line.limit ≡ Limit.None)
-    ∷ (empty_network.back ≡ Back.None)
+    ∷ (empty_network.line.limit ≡ None)
+    ∷ (empty_network.back ≡ None)
     ∷ (empty_network.bits ≡ replicate 16 1)
     ∷ (empty_network.senders ≡ 0)
     ∷ (empty_network.on ≡ Always (double 0x3ff0000000000000))

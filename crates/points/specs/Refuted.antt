@@ -1,23 +1,16 @@
 -- The account of packets, clause by clause: for each clause of `Account` and `LineAccount` a history and a last state of which there is no account because of
 -- that clause. Each is the history and the state that ten ticks gave, with one thing changed, and every clause that is not named holds of it.
-use Rattle.std.specs.Prelude.{◌≡◌, Bool, true, false, ◌||◌, ◌&&◌, cond, List, [], ◌∷◌, ◌++◌, map, ℕ, ◌+◌, ◌*◌, ◌<◌, pos, negsuc, length, take, set, replicate, ltb, eqb, Float}
+use Rattle.std.specs.Prelude.{◌≡◌, Bool, true, false, ◌||◌, ◌&&◌, cond, List, [], ◌∷◌, ◌++◌, map, ℕ, ◌+◌, ◌*◌, ◌<◌, pos, negsuc, length, take, set, replicate, ltb, eqb, Float, Option, Some, None}
 use Rattle.std.specs.Float.{fin}
-use Rattle.quantities.specs.declared.time.OptionTime.TheVariants.{None, Some}
 use Rattle.quantities.specs.Doubles.{zero_f, power}
 use Rattle.quantities.specs.Units.{span_of, time_of, amount_of, span_after}
 use Rattle.draws.specs.declared.distribution.ContinuousDistribution.TheVariants.{Always}
 use Rattle.meters.specs.Meter.{new_meter}
-use Rattle.link.specs.declared.link.Limit.{Limit}
-use Rattle.link.specs.declared.link.Limit.TheVariants as Limit
 use Rattle.sender.specs.declared.lossy.Policy.TheVariants.{Held}
 use Rattle.toggler.specs.Queue.{no_queued}
-use Rattle.remy.specs.declared.network.ReturnLine.TheVariants as Back
 use Rattle.remy.specs.declared.network.RemyNetwork.{RemyNetwork}
 use Rattle.remy.specs.declared.simulation.Mark.{Mark}
 use Rattle.remy.specs.declared.simulation.Mark.TheVariants as Mark
-use Rattle.remy.specs.declared.simulation.Name.{Name}
-use Rattle.remy.specs.declared.simulation.Name.TheVariants as Name
-use Rattle.remy.specs.declared.simulation.Next.TheVariants as Next
 use Rattle.remy.specs.declared.simulation.Simulation.{Simulation}
 use Rattle.remy.specs.declared.simulation.TickRecord.{TickRecord}
 use Rattle.remy.specs.Network.{between}
@@ -115,11 +108,11 @@ Refuted by k = (Accounted k → ⊥) × Others by k
 -- ---- ten ticks
 
 -- delay 2, rate 8, this loss, this limit, bits 8, one sender, on always 100, off always 1, held 6
-abbrev pub network_with : Float → Limit → RemyNetwork
+abbrev pub network_with : Float → Option ℕ → RemyNetwork
 network_with loss most =
     record {
       line = record { delay = power 1; rate = power 3; loss = loss; limit = most };
-      back = Back.None;
+      back = None;
       bits = replicate 16 8;
       senders = 1;
       on = Always (fin false 25 (pos 2));
@@ -128,12 +121,12 @@ network_with loss most =
     }
 
 abbrev pub plan : RemyNetwork
-plan = network_with zero_f (Limit.Bits 32)
+plan = network_with zero_f (Some 32)
 
-abbrev pub its : ℕ → Name
-its m = Name.Packet 0 m
+abbrev pub its : ℕ → Option (ℕ × ℕ)
+its m = Some (0 , m)
 
-abbrev pub note_at : Float → ℕ → Mark → Name → Name → TickRecord
+abbrev pub note_at : Float → ℕ → Mark → Option (ℕ × ℕ) → Option (ℕ × ℕ) → TickRecord
 note_at time part mark packet started = record { time = time_of time; part = part; mark = mark; packet = packet; started = started }
 
 -- A history: the sender is switched on and sends the packets a to e, and f is dropped full. Packet a starts at 1, b at this time and c at that;
@@ -161,7 +154,7 @@ unfoldable pub tenth : Simulation
 tenth =
     record {
       network = plan;
-      head = record { clock = time_of three; next = Next.Part 1 };
+      head = record { clock = time_of three; next = Some 1 };
       lines =
           record {
             earliest_transmit = time_of (power 2);
@@ -228,7 +221,7 @@ records_are s x =
 
 -- the network at hand has another loss, which no other clause reads
 abbrev pub another_network : Case
-another_network = record { network = network_with (power 0) (Limit.Bits 32); past = ten; last = tenth }
+another_network = record { network = network_with (power 0) (Some 32); past = ten; last = tenth }
 
 -- the S record of 0:5 is missing, though it waits
 abbrev pub unrecorded : Case
@@ -276,7 +269,7 @@ tallied_twice = case_of ten (waiting_with 24 2)
 
 -- two packets of 8 bits wait at a limit of 8
 abbrev pub overfull : Case
-overfull = record { network = network_with zero_f (Limit.Bits 8); past = ten; last = with_network tenth (network_with zero_f (Limit.Bits 8)) }
+overfull = record { network = network_with zero_f (Some 8); past = ten; last = with_network tenth (network_with zero_f (Some 8)) }
 
 -- ---- packets in two places, in none, and never sent
 
@@ -307,7 +300,7 @@ nowhere = numbered_case 1 2 3 4 5 7 Mark.Counted 1
 
 -- a packet of a sender that is not there was dropped full
 abbrev pub never_sent : Case
-never_sent = case_of (ten ++ note_at three 1 Mark.Full (Name.Packet 1 1) none ∷ []) tenth
+never_sent = case_of (ten ++ note_at three 1 Mark.Full (Some (1 , 1)) none ∷ []) tenth
 
 -- ---- the claims
 

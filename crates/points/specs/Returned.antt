@@ -1,9 +1,7 @@
 -- Document 02, K4: the account of packets with a return line, clause by clause: for each clause of the second line a history and a last state that it alone refuses,
 -- and for each of the eleven places of `once` a packet that is there and elsewhere. Each is what twenty ticks gave, with one thing changed.
-use Rattle.std.specs.Prelude.{◌≡◌, true, false, ◌||◌, cond, List, [], ◌∷◌, ◌++◌, map, ℕ, zero, suc, ◌*◌, ◌<◌, pos, negsuc, set, replicate, Float}
+use Rattle.std.specs.Prelude.{◌≡◌, true, false, ◌||◌, cond, List, [], ◌∷◌, ◌++◌, map, ℕ, zero, suc, ◌*◌, ◌<◌, pos, negsuc, set, replicate, Float, Option, Some, None}
 use Rattle.std.specs.Float.{fin}
-use Rattle.quantities.specs.declared.time.OptionTime.TheVariants as Option
-use Rattle.quantities.specs.declared.time.OptionTime.TheVariants.{Some}
 use Rattle.quantities.specs.Doubles.{zero_f, power, least}
 use Rattle.quantities.specs.Units.{span_of, time_of, amount_of}
 use Rattle.draws.specs.declared.distribution.ContinuousDistribution.TheVariants.{Always}
@@ -14,16 +12,12 @@ use Rattle.link.specs.declared.packet.Waiting.{Waiting}
 use Rattle.link.specs.declared.link.Left.TheVariants as Left
 use Rattle.link.specs.declared.link.LineValues.{LineValues}
 use Rattle.link.specs.declared.link.Line.{Line}
-use Rattle.link.specs.declared.link.Limit.{Limit}
-use Rattle.link.specs.declared.link.Limit.TheVariants as Limit
 use Rattle.sender.specs.declared.lossy.Policy.TheVariants.{Held}
 use Rattle.sender.specs.declared.lossy.SenderState.TheVariants as State
 use Rattle.toggler.specs.Queue.{no_queued}
-use Rattle.remy.specs.declared.network.ReturnLine.TheVariants as Back
 use Rattle.remy.specs.declared.network.RemyNetwork.{RemyNetwork}
 use Rattle.remy.specs.declared.simulation.Mark.{Mark}
 use Rattle.remy.specs.declared.simulation.Mark.TheVariants as Mark
-use Rattle.remy.specs.declared.simulation.Next.TheVariants as Next
 use Rattle.remy.specs.declared.simulation.Simulation.{Simulation}
 use Rattle.remy.specs.declared.simulation.TickRecord.{TickRecord}
 use Rattle.remy.specs.State.{has_back, line_count, Role, link, bouncer, sender, line_at, with_line, with_waiting, with_on_line, with_meter, with_queued}
@@ -48,11 +42,11 @@ abbrev pub seven : Float
 seven = fin false 7 (pos 0)
 
 -- delay 1, rate 8, limit 48; back with delay 4, rate 4 and this limit; no loss; bits 8, one sender, on always 100, off always 1, held 8
-abbrev pub back_with : Limit → RemyNetwork
+abbrev pub back_with : Option ℕ → RemyNetwork
 back_with most =
     record {
-      line = record { delay = power 0; rate = power 3; loss = zero_f; limit = Limit.Bits 48 };
-      back = Back.Line (record { delay = power 2; rate = power 2; loss = zero_f; limit = most });
+      line = record { delay = power 0; rate = power 3; loss = zero_f; limit = Some 48 };
+      back = Some (record { delay = power 2; rate = power 2; loss = zero_f; limit = most });
       bits = replicate 16 8;
       senders = 1;
       on = Always (fin false 25 (pos 2));
@@ -61,7 +55,7 @@ back_with most =
     }
 
 abbrev pub both : RemyNetwork
-both = back_with (Limit.Bits 16)
+both = back_with (Some 16)
 
 -- A history: the sender sends the packets a to g, and h is dropped full. They start on the first line at 1, 2 and so on, and leave it a second later: a, b, c, d
 -- and f are admitted to the second, e leaves with a mark, w is sent later. On the second, part 4, a starts at 2, b at this time, and c at that, when a leaves with a mark.
@@ -98,7 +92,7 @@ unfoldable pub twentieth : Simulation
 twentieth =
     record {
       network = both;
-      head = record { clock = time_of (power 3); next = Next.Part 0 };
+      head = record { clock = time_of (power 3); next = Some 0 };
       lines =
           record {
             earliest_transmit = time_of (power 3);
@@ -216,7 +210,7 @@ other_bits = case_with twenty (back_waiting twentieth (carrying 4 4) (carrying 6
 
 -- two packets of 8 bits wait at a limit of 8; the first line's is 48
 abbrev pub overfull_back : Case
-overfull_back = record { network = back_with (Limit.Bits 8); past = twenty; last = with_network twentieth (back_with (Limit.Bits 8)) }
+overfull_back = record { network = back_with (Some 8); past = twenty; last = with_network twentieth (back_with (Some 8)) }
 
 -- a P record of 0:6, which the second line does not have
 abbrev pub not_admitted : Case
@@ -293,8 +287,8 @@ nowhere_back = numbered_back 1 2 3 4 5 10 7 8 9 Mark.FullBack Mark.Counted 1
 -- no limits, no loss, delay 1 and rate 8 on both lines, held 3
 abbrev pub roomy : RemyNetwork
 roomy =
-    let line : LineValues = record { delay = power 0; rate = power 3; loss = zero_f; limit = Limit.None } in
-    record { line = line; back = Back.Line line; bits = replicate 16 8; senders = 1; on = Always (fin false 25 (pos 2)); off = Always (power 0); policy = Held 3 }
+    let line : LineValues = record { delay = power 0; rate = power 3; loss = zero_f; limit = None } in
+    record { line = line; back = Some line; bits = replicate 16 8; senders = 1; on = Always (fin false 25 (pos 2)); off = Always (power 0); policy = Held 3 }
 
 -- so many packets wait for a line and so many are on it, and it is free
 abbrev pub crowded : ℕ → ℕ → Line
@@ -312,12 +306,12 @@ unfoldable pub packed : Line → Line → Float → ℕ → Simulation
 packed first second time part =
     record {
       network = roomy;
-      head = record { clock = time_of time; next = Next.Part part };
+      head = record { clock = time_of time; next = Some part };
       lines = first ∷ (second ∷ []);
       waiting = replicate 1024 (waits_of (packet_of 0 1 (power 0)));
       on_line = replicate 1024 (transit_of (packet_of 0 1 (power 0)) (power 1));
       senders =
-          record { packets_sent = 2000; state = State.Enabled (record { started = time_of (power 0); greatest_ack = 2000; cwnd = 3; timer = Option.None }); rng = own_words }
+          record { packets_sent = 2000; state = State.Enabled (record { started = time_of (power 0); greatest_ack = 2000; cwnd = 3; timer = None }); rng = own_words }
           ∷ replicate 15 (new_sender blank_words);
       togglers = on_until101;
       meters =

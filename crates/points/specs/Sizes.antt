@@ -1,8 +1,7 @@
 -- Document 02, K1: two senders whose packets have 8 and 4 bits, as one list of claims. What twelve ticks give, their account, and what different sizes alone show that the account
 -- and the fit test refuse.
-use Rattle.std.specs.Prelude.{◌≡◌, true, false, List, [], ◌∷◌, map, ℕ, ◌<◌, pos, negsuc, get_or, set, replicate, Float}
+use Rattle.std.specs.Prelude.{◌≡◌, true, false, List, [], ◌∷◌, map, ℕ, ◌<◌, pos, negsuc, get_or, set, replicate, Float, Some, None}
 use Rattle.std.specs.Float.{fin}
-use Rattle.quantities.specs.declared.time.OptionTime.TheVariants.{None, Some}
 use Rattle.quantities.specs.Doubles.{zero_f, power}
 use Rattle.quantities.specs.Units.{span_of, time_of, amount_of}
 use Rattle.draws.specs.declared.generator.Rng.{Rng}
@@ -11,17 +10,14 @@ use Rattle.draws.specs.declared.distribution.ContinuousDistribution.TheVariants.
 use Rattle.meters.specs.declared.meter.AverageFlowMeter.{AverageFlowMeter}
 use Rattle.meters.specs.Meter.{new_meter}
 use Rattle.link.specs.declared.packet.Waiting.{Waiting}
-use Rattle.link.specs.declared.link.Limit.TheVariants as Limit
 use Rattle.link.specs.Link.{receive_of}
 use Rattle.sender.specs.declared.lossy.Policy.TheVariants.{Held}
 use Rattle.sender.specs.declared.lossy.SenderState.TheVariants as State
 use Rattle.sender.specs.declared.lossy.LossySender.{LossySender}
 use Rattle.toggler.specs.declared.toggler.Toggler.{Toggler}
 use Rattle.toggler.specs.Queue.{no_queued}
-use Rattle.remy.specs.declared.network.ReturnLine.TheVariants as Back
 use Rattle.remy.specs.declared.network.RemyNetwork.{RemyNetwork}
 use Rattle.remy.specs.declared.simulation.Mark.TheVariants as Mark
-use Rattle.remy.specs.declared.simulation.Next.TheVariants as Next
 use Rattle.remy.specs.declared.simulation.Simulation.{Simulation}
 use Rattle.remy.specs.declared.simulation.TickRecord.{TickRecord}
 use Rattle.remy.specs.Network.{network_stop}
@@ -41,8 +37,8 @@ use Rattle.points.specs.Refuted.{Case, spacing, bits, carried, Refuted, note_at}
 abbrev pub two_sizes : RemyNetwork
 two_sizes =
     record {
-      line = values_from (power 0) (power 3) zero_f (Limit.Bits 16);
-      back = Back.None;
+      line = values_from (power 0) (power 3) zero_f (Some 16);
+      back = None;
       bits = 8 ∷ 4 ∷ replicate 14 0;
       senders = 2;
       on = Always (fin false 25 (pos 2));
@@ -97,7 +93,7 @@ unfoldable pub eleventh : Simulation
 eleventh =
     record {
       network = two_sizes;
-      head = record { clock = time_of (fin false 7 (negsuc 0)); next = Next.Part 0 };
+      head = record { clock = time_of (fin false 7 (negsuc 0)); next = Some 0 };
       lines =
           line_of (fin false 7 (negsuc 0)) 12 3 2 2 1 (from_words 17320858190345277832 17485486823304369229 4880033550728840059 7829798214420298896)
           ∷ new_line blank_words
@@ -196,8 +192,8 @@ sizes =
     -- Twelve ticks: starts are a second apart after a packet of 8 bits, and half a second after one of 4.
     ∷ (told_of 12 mixed ≡ twelve)
     -- Where a packet of 8 bits is dropped full, one of 4 bits is admitted.
-    ∷ ((receive_of (Limit.Bits 16) (line_at eleventh 0) (amount_of 8)).admitted ≡ false)
-    ∷ ((receive_of (Limit.Bits 16) (line_at eleventh 0) (amount_of 4)).admitted ≡ true)
+    ∷ ((receive_of (Some 16) (line_at eleventh 0) (amount_of 8)).admitted ≡ false)
+    ∷ ((receive_of (Some 16) (line_at eleventh 0) (amount_of 4)).admitted ≡ true)
     -- The waiting bits are the sum of what the waiting packets carry, and each carries its sender's.
     ∷ (map (λ x. x.bits.0) (waiting_items eleventh 0) ≡ 4 ∷ 8 ∷ [])
     ∷ ((line_at eleventh 0).buffer_contains.0 ≡ 12)

@@ -1,10 +1,9 @@
 -- Document 01, the paragraph "Unfit" below "Stops", and document 02's clauses: for each clause, and for each test inside it, states that it refuses and no other does, as one list of claims.
 -- Each state is one of the worked example's, one of a network with a return line, or the empty simulation, with a field changed; beside it stand the nearest states that are fit.
-use Rattle.std.specs.Prelude.{◌≡◌, Bool, true, false, not, ◌&&◌, ◌||◌, cond, List, [], ◌∷◌, ◌++◌, map, ℕ, ◌*◌, ◌<◌, pos, negsuc, get_or, set, take, replicate, leb, ltb, eqb, Float}
+use Rattle.std.specs.Prelude.{◌≡◌, Bool, true, false, not, ◌&&◌, ◌||◌, cond, List, [], ◌∷◌, ◌++◌, map, ℕ, ◌*◌, ◌<◌, pos, negsuc, get_or, set, take, replicate, leb, ltb, eqb, Float, Option, Some, None}
 use Rattle.std.specs.Float.{nan, inf, fin}
 use Rattle.std.specs.Float.Ieee.{eq}
-use Rattle.quantities.specs.declared.time.OptionTime.{OptionTime}
-use Rattle.quantities.specs.declared.time.OptionTime.TheVariants.{None, Some}
+use Rattle.quantities.specs.declared.time.Time.{Time}
 use Rattle.quantities.specs.Doubles.{zero_f, power, largest}
 use Rattle.quantities.specs.Units.{span_of, time_of, amount_of}
 use Rattle.draws.specs.declared.distribution.ContinuousDistribution.TheVariants.{Always}
@@ -14,7 +13,6 @@ use Rattle.meters.specs.Meter.{new_meter}
 use Rattle.link.specs.declared.packet.Packet.{Packet}
 use Rattle.link.specs.declared.packet.Waiting.{Waiting}
 use Rattle.link.specs.declared.packet.Transit.{Transit}
-use Rattle.link.specs.declared.link.Limit.TheVariants as Limit
 use Rattle.sender.specs.declared.lossy.Policy.TheVariants.{Held, Timed}
 use Rattle.sender.specs.declared.lossy.Enabled.{Enabled}
 use Rattle.sender.specs.declared.lossy.SenderState.{SenderState}
@@ -25,8 +23,6 @@ use Rattle.link.specs.declared.link.Line.{Line}
 use Rattle.link.specs.Ring.{places, slot_of}
 use Rattle.toggler.specs.Queue.{queue_places, no_queued}
 use Rattle.remy.specs.declared.network.RemyNetwork.{RemyNetwork}
-use Rattle.remy.specs.declared.simulation.Next.{Next}
-use Rattle.remy.specs.declared.simulation.Next.TheVariants as Next
 use Rattle.remy.specs.declared.simulation.Simulation.{Simulation}
 use Rattle.remy.specs.State.{line_count, link, no_waiting, no_transit, no_line, no_sender, no_toggler, no_meter, line_at, sender_at, toggler_at, meter_at, queued_at, waiting_packets, on_line_items, on_line_packets, with_head, with_lines, with_line, with_waiting, with_on_line, with_sender, with_toggler, with_meter, with_queued}
 use Rattle.remy.specs.Queue.{next_time_of, part_of}
@@ -106,7 +102,7 @@ unfoldable pub busy : Simulation
 busy =
     record {
       network = worked;
-      head = record { clock = time_of three; next = Next.Part 0 };
+      head = record { clock = time_of three; next = Some 0 };
       lines = line_of three 8 2 1 1 1 link_sampled ∷ new_line blank_words ∷ [];
       waiting = waits_of (packet_of 0 1 (power 0)) ∷ waits_of (packet_of 0 2 (power 0)) ∷ waits_of (packet_of 0 4 (power 1)) ∷ replicate 1021 blank_waiting;
       on_line = transit_of (packet_of 0 1 (power 0)) (power 1) ∷ transit_of (packet_of 0 2 (power 0)) three ∷ replicate 1022 blank_transit;
@@ -123,7 +119,7 @@ unfoldable pub quiet : Simulation
 quiet =
     record {
       network = worked;
-      head = record { clock = time_of (power 0); next = Next.Part 2 };
+      head = record { clock = time_of (power 0); next = Some 2 };
       lines = new_line (from_words 14971601782005023387 13781649495232077965 1847458086238483744 13765271635752736470) ∷ new_line blank_words ∷ [];
       waiting = replicate 1024 blank_waiting;
       on_line = replicate 1024 blank_transit;
@@ -135,7 +131,7 @@ quiet =
 
 -- delay 1, rate 8, loss 0, no limit, and a return line with delay 2, rate 4, loss 0, limit 16; bits 8, one sender, on always 100, off always 1, held 3
 abbrev pub there_and_back : RemyNetwork
-there_and_back = returned (network_from (power 0) (power 3) zero_f Limit.None (bits_all 8) 1 worked.on always (Held 3)) (values_from (power 1) (power 2) zero_f (Limit.Bits 16))
+there_and_back = returned (network_from (power 0) (power 3) zero_f None (bits_all 8) 1 worked.on always (Held 3)) (values_from (power 1) (power 2) zero_f (Some 16))
 
 -- It after eleven ticks: clock 4, the first link next. 0:4 waits for the first line and may start at 4. 0:3 waits for the return line and may start at 6, when 0:2, which is
 -- on it, is due; 0:1 is counted.
@@ -143,7 +139,7 @@ unfoldable pub returning : Simulation
 returning =
     record {
       network = there_and_back;
-      head = record { clock = time_of (power 2); next = Next.Part 0 };
+      head = record { clock = time_of (power 2); next = Some 0 };
       lines =
           line_of (power 2) 8 3 1 3 0 (from_words 7953892005776783701 4715759149504841406 7558737548416537331 15932525744996764490)
           ∷ line_of six 8 2 1 1 1 (from_words 6885865512758065188 7016781552821245989 8142080738866415724 2242310618908246863)
@@ -196,7 +192,7 @@ with_held s lines waiting on_line = with_lines (with_waiting (with_on_line s on_
 abbrev pub with_clock : Simulation → Float → Simulation
 with_clock s x = with_head s (record { clock = time_of x; next = s.head.next })
 
-abbrev pub with_next : Simulation → Next → Simulation
+abbrev pub with_next : Simulation → Option ℕ → Simulation
 with_next s x = with_head s (record { clock = s.head.clock; next = x })
 
 abbrev pub queued_for : Simulation → ℕ → Float → Simulation
@@ -287,14 +283,14 @@ abbrev pub words_only : ℕ → ℕ → ℕ → ℕ → Rng
 words_only a b c d = record { s0 = a; s1 = b; s2 = c; s3 = d }
 
 -- meter 0: total enabled time, start, bits, records, RTT sum
-abbrev pub meter_with : Simulation → Float → OptionTime → ℕ → ℕ → Float → Simulation
+abbrev pub meter_with : Simulation → Float → Option Time → ℕ → ℕ → Float → Simulation
 meter_with s total start bits records sum =
     with_meter s 0 (record { total_time = span_of total; current_start = start; total = amount_of bits; records = records; rtt_sum = span_of sum })
 
 abbrev pub with_total : Simulation → Float → Simulation
 with_total s x = meter_with s x (Some (time_of (power 0))) 8 1 (power 0)
 
-abbrev pub with_meter_start : Simulation → OptionTime → Simulation
+abbrev pub with_meter_start : Simulation → Option Time → Simulation
 with_meter_start s x = meter_with s zero_f x 8 1 (power 0)
 
 abbrev pub with_meter_bits : Simulation → ℕ → Simulation
@@ -526,8 +522,8 @@ unfoldable pub early : ℕ → Float → Simulation
 early l at =
     let delay : ℕ → Float = λ k. cond (eqb k l) zero_f (power 3) in
     record {
-      network = returned (with_delay (delay 0)) (values_from (delay 1) (power 3) zero_f Limit.None);
-      head = record { clock = time_of half; next = Next.Part (part_of 1 (link l)) };
+      network = returned (with_delay (delay 0)) (values_from (delay 1) (power 3) zero_f None);
+      head = record { clock = time_of half; next = Some (part_of 1 (link l)) };
       lines = set (new_line blank_words ∷ new_line blank_words ∷ []) l (line_of zero_f 8 0 1 0 1 blank_words);
       waiting = replicate 1024 (waits_of (packet_of 0 2 zero_f));
       on_line = replicate 1024 (transit_of (packet_of 0 1 zero_f) at);
@@ -584,16 +580,16 @@ unfit =
     ∷ Unfit (network ∷ []) (with_network busy (with_delay nan))
     ∷ Unfit (network ∷ []) (with_network busy (with_rate zero_f))
     ∷ Unfit (network ∷ []) (with_network busy (with_loss nan))
-    ∷ Unfit (network ∷ []) (with_network busy (with_limit (Limit.Bits 1125899906842625)))
+    ∷ Unfit (network ∷ []) (with_network busy (with_limit (Some 1125899906842625)))
     ∷ Unfit (network ∷ []) (with_network quiet (with_bits 0))
     ∷ Unfit (network ∷ []) (with_network busy (with_on (Always zero_f)))
     ∷ Unfit (network ∷ []) (with_network busy (with_policy (Held 0)))
     -- or a return line that 20 refuses.
-    ∷ Fit (with_network returning (with_back (values_from (power 1) (power 2) (power 0) Limit.None)))
-    ∷ Unfit (network ∷ []) (with_network returning (with_back (values_from nan (power 2) zero_f Limit.None)))
-    ∷ Unfit (network ∷ []) (with_network returning (with_back (values_from (power 1) below_one zero_f Limit.None)))
-    ∷ Unfit (network ∷ []) (with_network returning (with_back (values_from (power 1) (power 2) above_one Limit.None)))
-    ∷ Unfit (network ∷ []) (with_network returning (with_back (values_from (power 1) (power 2) zero_f (Limit.Bits 1125899906842625))))
+    ∷ Fit (with_network returning (with_back (values_from (power 1) (power 2) (power 0) None)))
+    ∷ Unfit (network ∷ []) (with_network returning (with_back (values_from nan (power 2) zero_f None)))
+    ∷ Unfit (network ∷ []) (with_network returning (with_back (values_from (power 1) below_one zero_f None)))
+    ∷ Unfit (network ∷ []) (with_network returning (with_back (values_from (power 1) (power 2) above_one None)))
+    ∷ Unfit (network ∷ []) (with_network returning (with_back (values_from (power 1) (power 2) zero_f (Some 1125899906842625))))
     -- A clock below 0. (A NaN is a held time too. Where a sender is on, its start is outside 0..clock too.)
     ∷ Fit (with_clock empty zero_f)
     ∷ Fit (with_clock empty minus_zero)
@@ -691,10 +687,10 @@ unfit =
     ∷ Unfit (meter_bits ∷ []) (with_meter_bits busy 9)
     -- A next component whose own next time isn't the clock: another time, none, and no component,
     ∷ Unfit (next ∷ []) (with_clock busy (fin false 5 (negsuc 0)))
-    ∷ Unfit (next ∷ []) (with_next link_queued (Next.Part 1))
-    ∷ Unfit (next ∷ []) (with_next link_queued (Next.Part 3))
+    ∷ Unfit (next ∷ []) (with_next link_queued (Some 1))
+    ∷ Unfit (next ∷ []) (with_next link_queued (Some 3))
     -- none though a part is queued,
-    ∷ Unfit (next ∷ []) (with_next link_queued Next.None)
+    ∷ Unfit (next ∷ []) (with_next link_queued None)
     -- or another part whose queued time isn't its own next time,
     ∷ Unfit (others ∷ []) (queued_for busy 2 (power 6))
     -- queued with none,
@@ -704,14 +700,14 @@ unfit =
     ∷ Unfit (others ∷ []) (queued_for busy 34 three)
     -- or not queued with one.
     ∷ Unfit (others ∷ []) (with_queued busy 2 None)
-    ∷ Unfit (others ∷ []) (with_next quiet Next.None)
+    ∷ Unfit (others ∷ []) (with_next quiet None)
     -- With a return line: the second link, part 4, next before its time, queued at another, queued with none, not queued with one;
-    ∷ Unfit (next ∷ []) (with_next (queued_for returning 0 (power 2)) (Next.Part 4))
+    ∷ Unfit (next ∷ []) (with_next (queued_for returning 0 (power 2)) (Some 4))
     ∷ Unfit (others ∷ []) (queued_for returning 4 (power 3))
     ∷ Unfit (others ∷ []) (line_with returning 1 six 0 2 0 1 0)
     ∷ Unfit (others ∷ []) (with_queued returning 4 None)
     -- the bouncer, part 3, next, and queued: it has no next time;
-    ∷ Unfit (next ∷ []) (with_next (queued_for returning 0 (power 2)) (Next.Part 3))
+    ∷ Unfit (next ∷ []) (with_next (queued_for returning 0 (power 2)) (Some 3))
     ∷ Unfit (others ∷ []) (queued_for returning 3 (power 3))
     -- and the place after them.
     ∷ Unfit (others ∷ []) (queued_for returning 5 (power 3))

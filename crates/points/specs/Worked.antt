@@ -1,22 +1,17 @@
 -- Document 01, "The text program": the worked example, as a network, and what its seven ticks give, as one list of claims. Then six ticks of a network with a delay of 0, as another.
-use Rattle.std.specs.Prelude.{◌≡◌, Bool, true, false, List, [], ◌∷◌, map, ℕ, zero, suc, pos, replicate}
+use Rattle.std.specs.Prelude.{◌≡◌, Bool, true, false, List, [], ◌∷◌, map, ℕ, zero, suc, pos, replicate, Option, Some, None, Ok}
 use Rattle.std.specs.Float.{fin, binary64}
 use Rattle.std.specs.Float.Ieee.{of_bits}
 use Rattle.quantities.specs.declared.time.Time.{Time}
 use Rattle.quantities.specs.Doubles.{zero_f, power}
 use Rattle.quantities.specs.Units.{time_of, span_of, rate_of}
 use Rattle.draws.specs.declared.distribution.ContinuousDistribution.TheVariants.{Always}
-use Rattle.flows.specs.declared.flow.Rtt.TheVariants.{Known}
 use Rattle.meters.specs.Meter.{read_of}
-use Rattle.link.specs.declared.link.Limit.TheVariants as Limit
 use Rattle.sender.specs.declared.lossy.Policy.TheVariants.{Held}
-use Rattle.remy.specs.declared.network.ReturnLine.TheVariants as Back
 use Rattle.remy.specs.declared.network.RemyNetwork.{RemyNetwork}
 use Rattle.remy.specs.declared.simulation.Simulation.{Simulation}
 use Rattle.remy.specs.declared.simulation.Mark.{Mark}
 use Rattle.remy.specs.declared.simulation.Mark.TheVariants as Mark
-use Rattle.remy.specs.declared.simulation.Name.{Name}
-use Rattle.remy.specs.declared.simulation.Name.TheVariants as Name
 use Rattle.remy.specs.declared.simulation.TickRecord.{TickRecord}
 use Rattle.remy.specs.declared.simulation.Ticked.{Ticked}
 use Rattle.remy.specs.State.{sender_at, meter_at}
@@ -49,16 +44,16 @@ told_of n s = map told (ticks_of n s)
 abbrev pub moment_of : ℕ → Time
 moment_of bits = time_of (of_bits binary64 bits)
 
-abbrev pub told_line : ℕ → ℕ → Mark → Name → Name → Told
+abbrev pub told_line : ℕ → ℕ → Mark → Option (ℕ × ℕ) → Option (ℕ × ℕ) → Told
 told_line time part mark packet started =
     record { number = 0; moved = true; note = record { time = moment_of time; part = part; mark = mark; packet = packet; started = started } }
 
 -- packet i:n
-abbrev pub packet : ℕ → ℕ → Name
-packet i n = Name.Packet i n
+abbrev pub packet : ℕ → ℕ → Option (ℕ × ℕ)
+packet i n = Some (i , n)
 
-abbrev pub none : Name
-none = Name.None
+abbrev pub none : Option (ℕ × ℕ)
+none = None
 
 -- ---- the worked example
 
@@ -66,8 +61,8 @@ none = Name.None
 abbrev pub worked : RemyNetwork
 worked =
     record {
-      line = record { delay = power 0; rate = power 3; loss = zero_f; limit = Limit.Bits 8 };
-      back = Back.None;
+      line = record { delay = power 0; rate = power 3; loss = zero_f; limit = Some 8 };
+      back = None;
       bits = replicate 16 8;
       senders = 1;
       on = Always (fin false 25 (pos 2));
@@ -100,7 +95,7 @@ example =
     ∷ ((sender_at (worked_after 7) 0).packets_sent ≡ 4)
     ∷ ((meter_at (worked_after 7) 0).records ≡ 1)
     ∷ (read_of (meter_at (worked_after 7) 0) (worked_after 7).head.clock
-    ≡ record { number = 0; throughput = rate_of (of_bits binary64 0x4010000000000000); rtt = Known (span_of (of_bits binary64 0x3ff0000000000000)) })
+    ≡ record { number = 0; throughput = rate_of (of_bits binary64 0x4010000000000000); rtt = Ok (span_of (of_bits binary64 0x3ff0000000000000)) })
     ∷ []
 
 -- ---- a delay of 0: a packet that starts in one tick of the link leaves in the next, at the same clock
@@ -109,8 +104,8 @@ example =
 abbrev pub nearby : RemyNetwork
 nearby =
     record {
-      line = record { delay = zero_f; rate = power 3; loss = zero_f; limit = Limit.None };
-      back = Back.None;
+      line = record { delay = zero_f; rate = power 3; loss = zero_f; limit = None };
+      back = None;
       bits = replicate 16 8;
       senders = 1;
       on = Always (power 0);

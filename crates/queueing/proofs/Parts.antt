@@ -1,16 +1,14 @@
 -- A fit state's queue holds no time in a place that is no part's. Assumes nothing.
+use Rattle.std.proofs.Common.{Option, Some, None}
 use Prim.Native.Nat.{ℕ, ◌≤◌, ◌<◌}
 use mathlib.Core.Path.{◌≡◌, refl, sym, ap, subst, ◌∙◌}
 use mathlib.Core.Bool.{Bool, true, ◌||◌, false≢true}
 use native.Mathlib.Decide.{ℕ_discrete, dec_lt}
 use native.Mathlib.Omega.{arith}
 use borrow.Author.Tests.{ne_eqb}
-use Rattle.quantities.specs.declared.time.OptionTime.{OptionTime}
-use Rattle.quantities.specs.declared.time.OptionTime.TheVariants.{None, Some}
+use Rattle.quantities.specs.declared.time.Time.{Time}
 use Rattle.toggler.specs.Queue.{queue_places}
 use Rattle.toggler.proofs.Pick.{NoneFrom, none-past}
-use Rattle.remy.specs.declared.simulation.Next.{Next}
-use Rattle.remy.specs.declared.simulation.Next.TheVariants as Next
 use Rattle.remy.specs.declared.simulation.Simulation.{Simulation}
 use Rattle.remy.specs.Network.{up_to}
 use Rattle.remy.specs.State.{has_back, part_count, queued_at}
@@ -20,7 +18,7 @@ use Rattle.remy.specs.Fit.{same_time, next_fit, is_next, queue_fit, fit}
 use Rattle.remy.proofs.Facts.{both_l, both_r, up_to-at, fit-state}
 use Rattle.remy.proofs.Roles.{role_none}
 
-same_none : (x : OptionTime) → same_time x None ≡ true → x ≡ None
+same_none : (x : Option Time) → same_time x None ≡ true → x ≡ None
 same_none None e = refl
 same_none (Some t) e = absurd (false≢true e)
 
@@ -31,13 +29,13 @@ module _ (s : Simulation) (fits : fit s ≡ true) where
     own-none = ap (own_time s) (role_none s.network k past)
 
     -- it is not next, since it has no time of its own, and so its place holds none
-    by_next : (x : Next) → next_fit s x ≡ true → (is_next x k || same_time (queued_at s k) (next_time_of s k)) ≡ true → queued_at s k ≡ None
-    by_next Next.None own others = same_none (queued_at s k) (subst (λ (t : OptionTime). same_time (queued_at s k) t ≡ true) own-none others)
-    by_next (Next.Part j) own others = elim (ℕ_discrete j k) [
-      | yes same ↦ absurd (false≢true (sym (ap (λ (t : OptionTime). same_time (Some s.head.clock) t) (ap (next_time_of s) same ∙ own-none)) ∙ own))
+    by_next : (x : Option ℕ) → next_fit s x ≡ true → (is_next x k || same_time (queued_at s k) (next_time_of s k)) ≡ true → queued_at s k ≡ None
+    by_next None own others = same_none (queued_at s k) (subst (λ (t : Option Time). same_time (queued_at s k) t ≡ true) own-none others)
+    by_next (Some j) own others = elim (ℕ_discrete j k) [
+      | yes same ↦ absurd (false≢true (sym (ap (λ (t : Option Time). same_time (Some s.head.clock) t) (ap (next_time_of s) same ∙ own-none)) ∙ own))
       | no other ↦
           same_none (queued_at s k)
-          (subst (λ (t : OptionTime). same_time (queued_at s k) t ≡ true) own-none
+          (subst (λ (t : Option Time). same_time (queued_at s k) t ≡ true) own-none
           (subst (λ (b : Bool). (b || same_time (queued_at s k) (next_time_of s k)) ≡ true) (ne_eqb j k other) others))
     ]
 
@@ -51,6 +49,6 @@ module _ (s : Simulation) (fits : fit s ≡ true) where
 
   pub fit_none : Full s → NoneFrom (part_count s.network.senders (has_back s.network.back)) s.queue
   fit_none full k past = elim (dec_lt k queue_places) [
-    | yes inside ↦ ap (λ (t : OptionTime). record { time = t }) (queued_none k inside past)
+    | yes inside ↦ ap (λ (t : Option Time). record { time = t }) (queued_none k inside past)
     | no beyond ↦ none-past s.queue queue_places (rw full.queue (omega arith)) k (omega arith)
   ]

@@ -1,4 +1,5 @@
 -- The picked part is one of the queue's places; and the pick of a state out of its parts. Assumes nothing.
+use Rattle.std.proofs.Common.{Option, Some, None}
 use Prim.Native.Nat.{ℕ, ◌+◌, ◌≤◌, ◌<◌}
 use mathlib.Core.Path.{◌≡◌, refl, sym, ap, subst}
 use mathlib.Core.Bool.{Bool, true, false, cond}
@@ -6,8 +7,7 @@ use mathlib.Core.List.{List, [], ◌∷◌}
 use native.Mathlib.Omega.{arith}
 use lib.ListN.{length, get_or, set}
 use lib.Seq.{set-get_or}
-use Rattle.quantities.specs.declared.time.OptionTime.{OptionTime}
-use Rattle.quantities.specs.declared.time.OptionTime.TheVariants.{None, Some}
+use Rattle.quantities.specs.declared.time.Time.{Time}
 use Rattle.toggler.specs.declared.tick_queue.Queued.{Queued}
 use Rattle.toggler.specs.declared.tick_queue.Picked.{Picked}
 use Rattle.toggler.specs.Queue.{queue_places, no_queued, sooner, better, pick_from, pick_of}
@@ -32,7 +32,7 @@ unfolding pick_of
 part_inside queue p e full = rw e (from_below queue 0 queue_places (record { time = None; part = 0 }) (omega arith) (omega arith))
 
 -- the place of the picked part: emptied, or as it was
-pub removed-at : (queue : List Queued) (p : Picked) (t : OptionTime) → set queue p.part (place_after_pick t (get_or queue p.part no_queued)) ≡ removed queue p t
+pub removed-at : (queue : List Queued) (p : Picked) (t : Option Time) → set queue p.part (place_after_pick t (get_or queue p.part no_queued)) ≡ removed queue p t
 removed-at queue p None = set-get_or queue p.part no_queued
 removed-at queue p (Some t) = refl
 
@@ -42,8 +42,8 @@ unfolding picked
 picks s p h x e f g = rw (f, g, removed-at s.queue p p.time, e)
 
 -- where nothing is picked, the place holds no time: the picked place is emptied in either case
-emptied : (queue : List Queued) (t : OptionTime) → (pick_of queue).time ≡ t → no_queued ≡ place_after_pick t (get_or queue (pick_of queue).part no_queued)
-emptied queue None e = sym (ap (λ (t : OptionTime). record { time = t }) (picked-nothing queue e (pick_of queue).part))
+emptied : (queue : List Queued) (t : Option Time) → (pick_of queue).time ≡ t → no_queued ≡ place_after_pick t (get_or queue (pick_of queue).part no_queued)
+emptied queue None e = sym (ap (λ (t : Option Time). record { time = t }) (picked-nothing queue e (pick_of queue).part))
 emptied queue (Some t) e = refl
 
 -- the same with the picked place emptied and no test

@@ -1,9 +1,7 @@
 -- Whose turn it is, and the places of the tick queue after a turn. Definitions only; the crate advance proves that with `turns` they are the tick definition.
-use Rattle.std.specs.Prelude.{ℕ, Bool, cond}
+use Rattle.std.specs.Prelude.{ℕ, Bool, cond, Option, Some, None}
 use Rattle.std.specs.Float.Ieee.{lt}
 use Rattle.quantities.specs.declared.time.Time.{Time}
-use Rattle.quantities.specs.declared.time.OptionTime.{OptionTime}
-use Rattle.quantities.specs.declared.time.OptionTime.TheVariants as Option
 use Rattle.quantities.specs.Doubles.{power}
 use Rattle.link.specs.declared.packet.Transit.{Transit}
 use Rattle.link.specs.declared.link.Line.{Line}
@@ -13,8 +11,6 @@ use Rattle.toggler.specs.declared.tick_queue.Queued.{Queued}
 use Rattle.link.specs.Link.{next_tick}
 use Rattle.sender.specs.Sender.{sender_next}
 use Rattle.toggler.specs.Queue.{no_queued}
-use Rattle.remy.specs.declared.simulation.Next.{Next}
-use Rattle.remy.specs.declared.simulation.Next.TheVariants as Next
 use Rattle.remy.specs.declared.simulation.Head.{Head}
 use Rattle.remy.specs.State.{Role, link, bouncer, sender, toggler, nobody, role_of}
 use Rattle.queueing.specs.declared.Now.{Now}
@@ -30,9 +26,9 @@ now_role (toggler i) = Now.Toggler i
 now_role nobody = Now.Stop 9
 
 -- among n senders, with a return line or without
-abbrev pub now_next : Next → Time → ℕ → Bool → Now
-now_next Next.None clock n back = Now.Stop 0
-now_next (Next.Part k) clock n back = cond (lt (power 40) clock.0.0) (Now.Stop 10) (now_role (role_of n back k))
+abbrev pub now_next : Option ℕ → Time → ℕ → Bool → Now
+now_next None clock n back = Now.Stop 0
+now_next (Some k) clock n back = cond (lt (power 40) clock.0.0) (Now.Stop 10) (now_role (role_of n back k))
 
 unfoldable pub now_of : Bool → Head → ℕ → Bool → Now
 now_of fit h n back = cond fit (now_next h.next h.clock n back) (Now.Stop 9)
@@ -46,8 +42,8 @@ abbrev pub sender_slot : Bool → LossySender → Time → Queued → Queued
 sender_slot changed x clock old = cond changed (record { time = sender_next x clock }) old
 
 abbrev pub toggler_slot : Toggler → Queued
-toggler_slot t = record { time = Option.Some t.next_toggle }
+toggler_slot t = record { time = Some t.next_toggle }
 
-abbrev pub place_after_pick : OptionTime → Queued → Queued
-place_after_pick Option.None old = old
-place_after_pick (Option.Some t) old = no_queued
+abbrev pub place_after_pick : Option Time → Queued → Queued
+place_after_pick None old = old
+place_after_pick (Some t) old = no_queued

@@ -10,9 +10,9 @@ ghost use Rattle.remy.specs.Queue.{part_of, head_of};
 ghost use Rattle.queueing.specs.Queueing.{now_role, now_of, link_slot, sender_slot, toggler_slot, place_after_pick};
 
 use link::{Line, Transit};
-use quantities::{OptionTime, Time};
+use quantities::{Time};
 use ranges::lines::has_back;
-use remy::{Head, Next, ReturnLine};
+use remy::{Head};
 use sender::LossySender;
 use toggler::{Picked, Queued, Toggler};
 
@@ -27,14 +27,14 @@ pub enum Now {
 }
 
 // 9, idle and 10, and then the part by its number.
-pub fn whose_turn(fit: bool, head: Head, senders: u32, back: ReturnLine) -> Now
+pub fn whose_turn(fit: bool, head: Head, senders: u32, back: Option<LineValues>) -> Now
     ensures { result ≡ now_of fit head senders (has_back back) }
 {
     if !fit {
         return Now::Stop(9);
     }
     let next = head.next;
-    let Next::Part(k) = next else {
+    let Some(k) = next else {
         return Now::Stop(0);
     };
     if 1099511627776.0 < head.clock.0.0 {
@@ -84,7 +84,7 @@ pub fn link_part(l: usize, senders: u32) -> usize
 }
 
 // How many parts there are among so many senders, with a return line or without.
-pub fn part_count(senders: u32, back: ReturnLine) -> usize
+pub fn part_count(senders: u32, back: Option<LineValues>) -> usize
     ensures { result ≡ part_count senders (has_back back) }
 {
     let each = 2 * (senders as usize);
@@ -96,12 +96,12 @@ pub fn part_count(senders: u32, back: ReturnLine) -> usize
 
 // A time made anew from its parts: the machine code then copies no bytes between them (docs/BENCHMARKS.md,
 // "Values made anew").
-pub fn time_anew(time: OptionTime) -> OptionTime
+pub fn time_anew(time: Option<Time>) -> Option<Time>
     ensures { result ≡ time }
 {
     match time {
-        OptionTime::None => OptionTime::None,
-        OptionTime::Some(t) => OptionTime::Some(t),
+        None => None,
+        Some(t) => Some(t),
     }
 }
 
@@ -139,7 +139,7 @@ pub fn toggler_slot(toggler: Toggler) -> Queued
     ensures { result ≡ toggler_slot toggler }
 {
     let at = toggler.next_toggle;
-    let time = OptionTime::Some(at);
+    let time = Some(at);
     Queued { time }
 }
 
@@ -149,13 +149,13 @@ pub fn head_of(best: Picked) -> Head
 {
     let time = best.time;
     match time {
-        OptionTime::None => Head {
+        None => Head {
             clock: Time::MAX,
-            next: Next::None,
+            next: None,
         },
-        OptionTime::Some(clock) => Head {
+        Some(clock) => Head {
             clock,
-            next: Next::Part(best.part),
+            next: Some(best.part),
         },
     }
 }
@@ -166,9 +166,9 @@ pub fn place_after(best: Picked, old: Queued) -> Queued
 {
     let time = best.time;
     match time {
-        OptionTime::None => old,
-        OptionTime::Some(_) => Queued {
-            time: OptionTime::None,
+        None => old,
+        Some(_) => Queued {
+            time: None,
         },
     }
 }

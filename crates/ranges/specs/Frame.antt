@@ -1,6 +1,6 @@
 -- The values of a network's lines with their ranges, and the clauses of `fit` (the crate `remy`, specs/Fit.antt) that read the network, the head and the lines, and not the packets.
 -- Definitions only.
-use Rattle.std.specs.Prelude.{ℕ, zero, suc, ◌≤◌, ◌<◌, Bool, not, ◌&&◌, ◌||◌, cond, List, leb, ltb, eqb, get_or}
+use Rattle.std.specs.Prelude.{ℕ, zero, suc, ◌≤◌, ◌<◌, Bool, not, ◌&&◌, ◌||◌, cond, List, leb, ltb, eqb, get_or, Option}
 use Rattle.std.specs.Float.Ieee.{le, eq}
 use Rattle.quantities.specs.declared.time.Time.{Time}
 use Rattle.quantities.specs.Doubles.{zero_f, largest, in_range}
@@ -8,7 +8,6 @@ use Rattle.draws.specs.Generator.{all_zero}
 use Rattle.link.specs.declared.link.Line.{Line}
 use Rattle.link.specs.declared.link.LineValues.{LineValues}
 use Rattle.link.specs.Ring.{places}
-use Rattle.remy.specs.declared.network.ReturnLine.{ReturnLine}
 use Rattle.remy.specs.declared.network.RemyNetwork.{RemyNetwork}
 use Rattle.remy.specs.declared.simulation.Head.{Head}
 use Rattle.remy.specs.Network.{up_to, delay_fit, rate_fit, loss_fit, limit_fit, network_stop}
@@ -16,7 +15,7 @@ use Rattle.remy.specs.State.{line_count, back_values, no_line}
 use Rattle.remy.specs.Fit.{held, is_idle}
 
 -- the values of line l, of the first line's and those of a return line
-abbrev pub values_at : LineValues → ReturnLine → ℕ → LineValues
+abbrev pub values_at : LineValues → Option LineValues → ℕ → LineValues
 values_at first back zero = first
 values_at first back (suc l) = back_values first back
 

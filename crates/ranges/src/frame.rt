@@ -7,7 +7,7 @@ use crate::network_stop;
 use link::Line;
 use quantities::Time;
 use quantities::float::in_range;
-use remy::{Head, Next, RemyNetwork};
+use remy::{Head, RemyNetwork};
 
 // Whether network, head and lines are fit, without the packets.
 pub fn frame_fit(network: RemyNetwork, head: Head, lines: [Line; 2]) -> bool
@@ -90,8 +90,8 @@ fn clock_held(head: Head) -> bool
     }
     let next = head.next;
     match next {
-        Next::None => clock.0.0 == Time::MAX.0.0,
-        Next::Part(_) => false,
+        None => clock.0.0 == Time::MAX.0.0,
+        Some(_) => false,
     }
 }
 

@@ -10,9 +10,9 @@ pub mod frame;
 pub mod lines;
 
 use draws::ContinuousDistribution;
-use link::{Limit, LineValues};
+use link::{LineValues};
 use quantities::float::in_range;
-use remy::{RemyNetwork, ReturnLine};
+use remy::{RemyNetwork};
 use sender::Policy;
 
 // The number of the first range that a network is not in, 1 to 7 and then 20, or 0.
@@ -54,12 +54,12 @@ fn values_stop(values: LineValues, later: u32) -> u32
 }
 
 // Whether a limit is absent or at most 2^50 bits.
-fn limit_fit(limit: Limit) -> bool
+fn limit_fit(limit: Option<u64>) -> bool
     ensures { result ≡ limit_fit limit }
 {
     match limit {
-        Limit::None => true,
-        Limit::Bits(most) => most <= 1125899906842624,
+        None => true,
+        Some(most) => most <= 1125899906842624,
     }
 }
 
@@ -142,11 +142,11 @@ fn policy_fit(policy: Policy) -> bool
 }
 
 // Whether there is no return line, or its values are in the ranges of 1 to 4.
-fn back_fit(back: ReturnLine) -> bool
+fn back_fit(back: Option<LineValues>) -> bool
     ensures { result ≡ back_fit back }
 {
     match back {
-        ReturnLine::None => true,
-        ReturnLine::Line(values) => values_stop(values, 0) == 0,
+        None => true,
+        Some(values) => values_stop(values, 0) == 0,
     }
 }

@@ -1,4 +1,5 @@
 -- Demand 3: the account holds after every list of calls from a fresh simulation. Assumes nothing.
+use Rattle.std.proofs.Common.{Option, Some, None}
 use mathlib.Core.Path.{◌≡◌, refl, sym, ap, subst, ◌∙◌}
 use mathlib.Core.Logic.{◌⊎◌, inl, inr, ⊎_elim}
 use mathlib.Core.Bool.{Bool, true, false, ◌||◌, cond, true≢false}
@@ -10,8 +11,6 @@ use lib.Dec.{eqb}
 use lib.Ieee.{lt}
 use Rattle.quantities.specs.Doubles.{power}
 use Rattle.remy.specs.declared.network.RemyNetwork.{RemyNetwork}
-use Rattle.remy.specs.declared.simulation.Next.{Next}
-use Rattle.remy.specs.declared.simulation.Next.TheVariants as Next
 use Rattle.remy.specs.declared.simulation.Simulation.{Simulation}
 use Rattle.remy.specs.declared.simulation.Mark.{Mark}
 use Rattle.remy.specs.declared.simulation.TickRecord.{TickRecord}
@@ -70,9 +69,9 @@ pub tick_elim : (F : Ticked → Type 0) (s : Simulation) → ((number : ℕ) →
 unfolding tick_of
 tick_elim F s rests goes = cond_elim F (fit s) (tick_next s s.head.next) (unmoved s 9) (with_next_lem s.head.next) (λ unfit. rests 9)
   where
-    with_next_lem : (x : Next) → fit s ≡ true → F (tick_next s x)
-    with_next_lem Next.None e = rests 0
-    with_next_lem (Next.Part j) e =
+    with_next_lem : (x : Option ℕ) → fit s ≡ true → F (tick_next s x)
+    with_next_lem None e = rests 0
+    with_next_lem (Some j) e =
         cond_elim F (lt (power 40) s.head.clock.0.0) (unmoved s 10) (ticked s (outcome_of s (role_in s.network j)))
         (λ late. rests 10)
         (λ early. goes (fit-state s e) early j)

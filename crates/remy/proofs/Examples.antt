@@ -1,5 +1,6 @@
 -- Runs from built networks, computed: what these definitions do, where the account alone would let them do otherwise. States made by hand are in Stops.
 -- The crate `points` has the worked example whole. Assumes nothing.
+use Rattle.std.proofs.Common.{Option, Some, None}
 use mathlib.Core.Path.{◌≡◌, refl}
 use mathlib.Core.Bool.{false}
 use mathlib.Core.List.{List, [], ◌∷◌, map}
@@ -7,24 +8,18 @@ use Prim.Native.Nat.{ℕ}
 use lib.IntN.{pos}
 use lib.ListN.{replicate}
 use lib.Ieee.{Float, nan, fin}
-use Rattle.quantities.specs.declared.time.OptionTime.TheVariants.{Some}
+use Rattle.link.specs.declared.link.LineValues.{LineValues}
 use Rattle.quantities.specs.Doubles.{zero_f, power}
 use Rattle.quantities.specs.Units.{span_of, time_of, amount_of}
 use Rattle.draws.specs.declared.distribution.ContinuousDistribution.TheVariants.{Always}
 use Rattle.draws.specs.Generator.{from_words}
-use Rattle.link.specs.declared.link.Limit.{Limit}
-use Rattle.link.specs.declared.link.Limit.TheVariants as Limit
 use Rattle.sender.specs.declared.lossy.Policy.{Policy}
 use Rattle.sender.specs.declared.lossy.Policy.TheVariants.{Held, Timed}
 use Rattle.toggler.specs.Queue.{queue_places, no_queued}
-use Rattle.remy.specs.declared.network.ReturnLine.{ReturnLine}
-use Rattle.remy.specs.declared.network.ReturnLine.TheVariants as Back
 use Rattle.remy.specs.declared.network.RemyNetwork.{RemyNetwork}
 use Rattle.remy.specs.declared.simulation.Simulation.{Simulation}
 use Rattle.remy.specs.declared.simulation.Mark.{Mark}
 use Rattle.remy.specs.declared.simulation.Mark.TheVariants as Mark
-use Rattle.remy.specs.declared.simulation.Name.{Name}
-use Rattle.remy.specs.declared.simulation.Name.TheVariants as Name
 use Rattle.remy.specs.declared.simulation.TickRecord.{TickRecord}
 use Rattle.remy.specs.State.{line_at, meter_at, with_line, with_queued}
 use Rattle.remy.specs.Build.{build_of}
@@ -43,7 +38,7 @@ abbrev pub hundred : Float
 hundred = fin false 25 (pos 2)
 
 -- rate 8, loss 0, so many senders with these bits, on and off always so long
-abbrev pub network_of : ReturnLine → List ℕ → ℕ → Float → Limit → Float → Float → Policy → RemyNetwork
+abbrev pub network_of : Option LineValues → List ℕ → ℕ → Float → Option ℕ → Float → Float → Policy → RemyNetwork
 network_of back sizes senders delay limit on off policy =
     record {
       line = record { delay = delay; rate = power 3; loss = zero_f; limit = limit };
@@ -56,30 +51,30 @@ network_of back sizes senders delay limit on off policy =
     }
 
 -- no return line, seed 1
-abbrev built_of : List ℕ → ℕ → Float → Limit → Float → Float → Policy → Simulation
-built_of sizes senders delay limit on off policy = (build_of (network_of Back.None sizes senders delay limit on off policy) 1).simulation
+abbrev built_of : List ℕ → ℕ → Float → Option ℕ → Float → Float → Policy → Simulation
+built_of sizes senders delay limit on off policy = (build_of (network_of None sizes senders delay limit on off policy) 1).simulation
 
 -- one sender, bits 8
-abbrev built_with : Float → Limit → Float → Float → Policy → Simulation
+abbrev built_with : Float → Option ℕ → Float → Float → Policy → Simulation
 built_with delay limit on off policy = built_of (replicate 16 8) 1 delay limit on off policy
 
 -- on 100, off 1, held
-abbrev pub built : Float → Limit → ℕ → Simulation
+abbrev pub built : Float → Option ℕ → ℕ → Simulation
 built delay limit window = built_with delay limit hundred (power 0) (Held window)
 
-abbrev pub line : Float → ℕ → Mark → Name → Name → TickRecord
+abbrev pub line : Float → ℕ → Mark → Option (ℕ × ℕ) → Option (ℕ × ℕ) → TickRecord
 line time part mark packet started = record { time = time_of time; part = part; mark = mark; packet = packet; started = started }
 
-abbrev pub packet : ℕ → Name
-packet m = Name.Packet 0 m
+abbrev pub packet : ℕ → Option (ℕ × ℕ)
+packet m = Some (0 , m)
 
-abbrev pub none : Name
-none = Name.None
+abbrev pub none : Option (ℕ × ℕ)
+none = None
 
 -- ---- the worked example: delay 1, limit 8, held 3
 
 abbrev pub worked : Simulation
-worked = built (power 0) (Limit.Bits 8) 3
+worked = built (power 0) (Some 8) 3
 
 -- the toggler, which is next, was removed from the queue, and nothing else is queued
 worked-queue : worked.queue ≡ replicate queue_places no_queued
@@ -133,7 +128,7 @@ unfit-bits = refl
 
 -- ---- delay 4, no limit, on 2, off 1, held 1: the sender sends again when it is switched on again, and its packet of before is old
 
-restarted_history : history (ticks 8) (built_with (power 2) Limit.None (power 1) (power 0) (Held 1))
+restarted_history : history (ticks 8) (built_with (power 2) None (power 1) (power 0) (Held 1))
     ≡ line (power 0) 2 Mark.Enabled none none
     ∷ line (power 0) 1 Mark.Sent (packet 1) none
     ∷ line (power 0) 0 Mark.None none (packet 1)
@@ -148,7 +143,7 @@ restarted_history = refl
 
 -- ---- timed 1 with a gap of 2: the timer is the first send's, and goes alone though the sender may send
 
-timed-history : history (ticks 9) (built_with (power 0) Limit.None hundred (power 0) (Timed 1 (power 1)))
+timed-history : history (ticks 9) (built_with (power 0) None hundred (power 0) (Timed 1 (power 1)))
     ≡ line (power 0) 2 Mark.Enabled none none
     ∷ line (power 0) 1 Mark.Sent (packet 1) none
     ∷ line (power 0) 0 Mark.None none (packet 1)
@@ -164,7 +159,7 @@ timed-history = refl
 
 -- ---- delay 0, no limit, held 1: a packet that starts in one tick of the link leaves in the next
 
-nearby-history : history (ticks 4) (built zero_f Limit.None 1)
+nearby-history : history (ticks 4) (built zero_f None 1)
     ≡ line (power 0) 2 Mark.Enabled none none
     ∷ line (power 0) 1 Mark.Sent (packet 1) none
     ∷ line (power 0) 0 Mark.None none (packet 1)
@@ -176,7 +171,7 @@ nearby-history = refl
 -- ---- two senders with packets of 8 and of 4 bits, delay 2, limit 16, held 2: admission, starts and the waiting bits go by each packet's own
 
 abbrev pub two_sizes : Simulation
-two_sizes = built_of (8 ∷ 4 ∷ replicate 14 0) 2 (power 1) (Limit.Bits 16) hundred (power 0) (Held 2)
+two_sizes = built_of (8 ∷ 4 ∷ replicate 14 0) 2 (power 1) (Some 16) hundred (power 0) (Held 2)
 
 sizes-history : history (ticks 9) two_sizes
     ≡ line (power 0) 2 Mark.Enabled none none
@@ -184,10 +179,10 @@ sizes-history : history (ticks 9) two_sizes
     ∷ line (power 0) 0 Mark.None none (packet 1)
     ∷ line (power 0) 1 Mark.Sent (packet 2) none
     ∷ line (power 0) 4 Mark.Enabled none none
-    ∷ line (power 0) 3 Mark.Sent (Name.Packet 1 1) none
-    ∷ line (power 0) 3 Mark.Sent (Name.Packet 1 2) none
+    ∷ line (power 0) 3 Mark.Sent (Some (1 , 1)) none
+    ∷ line (power 0) 3 Mark.Sent (Some (1 , 2)) none
     ∷ line (power 1) 0 Mark.None none (packet 2)
-    ∷ line three 0 Mark.Counted (packet 1) (Name.Packet 1 1)
+    ∷ line three 0 Mark.Counted (packet 1) (Some (1 , 1))
     ∷ []
 unfolding ticking
 sizes-history = refl

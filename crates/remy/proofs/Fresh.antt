@@ -1,5 +1,6 @@
 -- A built simulation is fit, whatever the network and the seed are. A build that is refused gives the empty simulation, so this holds of it too.
 -- A network's floats may be any, also those that no 64 bits hold. Assumes nothing.
+use Rattle.std.proofs.Common.{Option, Some, None}
 use mathlib.Core.Path.{◌≡◌, refl, sym, ap, ap₂, ◌∙◌, subst}
 use mathlib.Core.Bool.{Bool, true, false, not, ◌&&◌, ◌||◌}
 use mathlib.Core.List.{List, [], ◌∷◌}
@@ -16,8 +17,6 @@ use Rattle.quantities.proofs.Order.{lt→le, le_trans, le_known_l, eq_refl}
 use Rattle.quantities.proofs.Ranges.{Within, add_within}
 use Rattle.quantities.proofs.Uniform.{sample-within, draw-fine}
 use Rattle.quantities.specs.declared.time.Time.{Time}
-use Rattle.quantities.specs.declared.time.OptionTime.{OptionTime}
-use Rattle.quantities.specs.declared.time.OptionTime.TheVariants.{None, Some}
 use Rattle.quantities.specs.Doubles.{zero_f, power, largest, least}
 use Rattle.draws.specs.declared.generator.Rng.{Rng}
 use Rattle.draws.specs.declared.distribution.ContinuousDistribution.{ContinuousDistribution}
@@ -359,7 +358,7 @@ module _ (s : Simulation) (b : Blank s) (a : Ready s) where
 -- ---- the queue: each part at its own next time
 
 -- a time that is there is in 0..2^20
-abbrev Soon : OptionTime → Type 0
+abbrev Soon : Option Time → Type 0
 Soon None = Unit {0}
 Soon (Some t) = Within t.0.0 (power 20)
 
@@ -404,7 +403,7 @@ module _ (s : Simulation) (b : Blank s) where
         role_at (λ (role : Role). own_time (with_head (with_queue s queue) head) role ≡ own_time s role) s.network k (λ role h e. role_same role h) (unfold own_time in refl)
 
 -- a time in 0..2^20 is no NaN, so it is the same as itself
-same_self : (x : OptionTime) → Soon x → same_time x x ≡ true
+same_self : (x : Option Time) → Soon x → same_time x x ≡ true
 same_self None w = refl
 same_self (Some t) w = is_true (eq t.0.0 t.0.0) (eq_refl t.0.0 (le_known_l t.0.0 (power 20) w.1))
 
@@ -418,19 +417,19 @@ abbrev first : Simulation → Picked
 first s = pick_of (all_queued s)
 
 -- the state after a pick that gives this time
-abbrev after : Simulation → OptionTime → Simulation
+abbrev after : Simulation → Option Time → Simulation
 after s time = with_head (with_queue s (removed (all_queued s) (first s) time)) (head_of (first s) time)
 
 module _ (s : Simulation) (b : Blank s) where
   queued_own : (k : ℕ) → k < queue_places → (get_or (all_queued s) k no_queued).time ≡ next_time_of s k
   queued_own k h = times-at s queue_places 0 k h ∙ ap (next_time_of s) (zero-add k)
 
-  after_blank : (time : OptionTime) → Blank (after s time)
+  after_blank : (time : Option Time) → Blank (after s time)
   after_blank time =
       record { network = b.network; lines = b.lines; senders = b.senders; togglers = b.togglers; meters = b.meters }
 
   -- a place that the pick left as it was is queued at the part's own next time
-  place_same : (time x : OptionTime) (k : ℕ) → k < queue_places → x ≡ (get_or (all_queued s) k no_queued).time → same_time x (next_time_of (after s time) k) ≡ true
+  place_same : (time x : Option Time) (k : ℕ) → k < queue_places → x ≡ (get_or (all_queued s) k no_queued).time → same_time x (next_time_of (after s time) k) ≡ true
   place_same time x k h e = ap₂ same_time (e ∙ queued_own k h) (own_same s b _ _ k) ∙ same_self (next_time_of s k) (soon s b k)
 
   -- nothing is queued
@@ -454,7 +453,7 @@ module _ (s : Simulation) (b : Blank s) where
     first_soon = subst Soon there (soon s b (first s).part)
 
     -- no queued time is before the picked one
-    not_before_lem : (k : ℕ) (x : OptionTime) → (get_or (all_queued s) k no_queued).time ≡ x → Soon x → held_queued (after s (Some t)) x ≡ true
+    not_before_lem : (k : ℕ) (x : Option Time) → (get_or (all_queued s) k no_queued).time ≡ x → Soon x → held_queued (after s (Some t)) x ≡ true
     not_before_lem k None i w = refl
     not_before_lem k (Some v) i w =
         let least = picked-le (all_queued s) e k i (le_known_l v.0.0 (power 20) w.1) (le_known_l t.0.0 (power 20) first_soon.1) in
@@ -476,7 +475,7 @@ module _ (s : Simulation) (b : Blank s) where
               (not_before_lem k (get_or (all_queued s) k no_queued).time refl (rw (queued_own k h) (soon s b k))) refl;
         }
 
-  ready : (time : OptionTime) → (first s).time ≡ time → Ready (after s time)
+  ready : (time : Option Time) → (first s).time ≡ time → Ready (after s time)
   ready None e = idle e
   ready (Some t) e = busy t e
 

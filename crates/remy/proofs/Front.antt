@@ -1,4 +1,5 @@
 -- In a fit state: what is known of the first packet that waits for a line, of the first on it, and of its sender's meter. Assumes nothing.
+use Rattle.std.proofs.Common.{Option, Some}
 use mathlib.Core.Path.{◌≡◌, refl, sym, ap, subst, ◌∙◌}
 use mathlib.Core.Bool.{Bool, true, false, not, ◌&&◌}
 use mathlib.Core.List.{◌∷◌, map}
@@ -8,8 +9,6 @@ use borrow.Author.Tests.{eq-eqb, leb-true, ltb-true, eqb-true}
 use lib.Dec.{T, leb, ltb, eqb}
 use lib.Ieee.{lt, le}
 use Rattle.quantities.specs.declared.time.Time.{Time}
-use Rattle.quantities.specs.declared.time.OptionTime.{OptionTime}
-use Rattle.quantities.specs.declared.time.OptionTime.TheVariants.{Some}
 use Rattle.quantities.specs.Doubles.{zero_f, power, in_range}
 use Rattle.quantities.specs.Units.{amount_of, rate_of, amount_over_rate}
 use Rattle.quantities.proofs.Order.{le_known_r, not-lt→le}
@@ -106,7 +105,7 @@ module _ (s : Simulation) (f : FitState s) where
         let moving = each_line s (λ l. every (λ p. since_start s p.sent_time) (on_line_packets s l)) in
         let senders = each_sender s (λ j. started_fit s (sender_at s j).state) in
         let meters = each_sender s (λ j. meter_start_fit s (meter_at s j).current_start) in
-        subst (λ (o : OptionTime). meter_start_fit s o ≡ true) e (at (λ j. meter_start_fit s (meter_at s j).current_start) (both_r (waiting && moving && senders) meters f.past))
+        subst (λ (o : Option Time). meter_start_fit s o ≡ true) e (at (λ j. meter_start_fit s (meter_at s j).current_start) (both_r (waiting && moving && senders) meters f.past))
 
     pub meter_facts : lt (power 40) s.head.clock.0.0 ≡ false → MeterFacts (meter_at s i) s.head.clock (sender_bits s.network i).0
     unfolding totals_fit sums_fit meter_bits_fit

@@ -1,5 +1,6 @@
 -- What a tick makes of the times that a state holds, for any claims of their kinds that the new times have. So doubles stay doubles, plain times stay plain, times from
 -- the clock on stay so, and a held time is old or new, by one proof over the tick. Assumes nothing.
+use Rattle.std.proofs.Common.{Option, Some, None}
 use mathlib.Core.Path.{◌≡◌, refl, sym, subst, ◌∙◌, ap}
 use mathlib.Core.Bool.{Bool, true, false, not, cond}
 use mathlib.Core.List.{List, [], ◌∷◌}
@@ -10,8 +11,6 @@ use lib.Dec.{leb, eqb}
 use lib.Ieee.{lt}
 use lib.ListN.{length, get_or, set, length-set}
 use Rattle.quantities.specs.declared.time.Time.{Time}
-use Rattle.quantities.specs.declared.time.OptionTime.{OptionTime}
-use Rattle.quantities.specs.declared.time.OptionTime.TheVariants.{None, Some}
 use Rattle.quantities.specs.Doubles.{power}
 use Rattle.quantities.specs.Units.{span_of, rate_of, time_of, latest_of, earliest_opt_of}
 use Rattle.draws.specs.Draws.{unit_of}
@@ -23,8 +22,6 @@ use Rattle.link.specs.declared.link.Line.{Line}
 use Rattle.link.specs.declared.link.Arrival.{Arrival}
 use Rattle.link.specs.declared.link.Left.{Left}
 use Rattle.link.specs.declared.link.Left.TheVariants as Left
-use Rattle.link.specs.declared.link.Begun.{Begun}
-use Rattle.link.specs.declared.link.Begun.TheVariants as Begun
 use Rattle.link.specs.declared.link.Delivered.{Delivered}
 use Rattle.link.specs.declared.link.Transmitted.{Transmitted}
 use Rattle.sender.specs.declared.lossy.Policy.{Policy}
@@ -50,13 +47,9 @@ use Rattle.link.proofs.Items.{Sound, items_push, items_pop, items-other, push_so
 use Rattle.link.proofs.Limits.{due_count}
 use Rattle.toggler.proofs.Least.{picked-there, picked-inside}
 use Rattle.remy.specs.declared.network.RemyNetwork.{RemyNetwork}
-use Rattle.remy.specs.declared.simulation.Next.{Next}
-use Rattle.remy.specs.declared.simulation.Next.TheVariants as Next
 use Rattle.remy.specs.declared.simulation.Head.{Head}
 use Rattle.remy.specs.declared.simulation.Simulation.{Simulation}
 use Rattle.remy.specs.declared.simulation.Ticked.{Ticked}
-use Rattle.remy.specs.declared.simulation.Name.{Name}
-use Rattle.remy.specs.declared.simulation.Name.TheVariants as Name
 use Rattle.remy.specs.declared.simulation.TickRecord.{TickRecord}
 use Rattle.remy.specs.State.{has_back, line_count, values_of, Role, link, bouncer, sender, toggler, nobody, role_in, no_transit, no_line, no_sender, no_toggler, line_at, sender_at, toggler_at, queued_at, first_of, front_of, on_line_items, packet_bits, with_line, with_waiting, with_on_line, with_sender, with_toggler, with_meter, with_head, with_queue}
 use Rattle.remy.specs.Queue.{end_of_time, own_time, part_of, requeue, head_of, removed, picked}
@@ -76,11 +69,11 @@ use Rattle.remy.specs.HeldTimes.{Full, Kinds, IfAny, timer_of, due_times, Holds,
 
 -- ---- times that may be there
 
-pub any_map : (P Q : Time → Type 0) → ((t : Time) → P t → Q t) → (o : OptionTime) → IfAny P o → IfAny Q o
+pub any_map : (P Q : Time → Type 0) → ((t : Time) → P t → Q t) → (o : Option Time) → IfAny P o → IfAny Q o
 any_map P Q f None p = tt
 any_map P Q f (Some t) p = f t p
 
-any_earliest : (P : Time → Type 0) (a b : OptionTime) → IfAny P a → IfAny P b → IfAny P (earliest_opt_of a b)
+any_earliest : (P : Time → Type 0) (a b : Option Time) → IfAny P a → IfAny P b → IfAny P (earliest_opt_of a b)
 any_earliest P None b p q = q
 any_earliest P (Some t) None p q = p
 any_earliest P (Some t) (Some u) p q = by (lt u.0.0 t.0.0)
@@ -289,7 +282,7 @@ module _ {k : Kinds} (s : Simulation) (closed : Closed k s.head.clock) where
         inside : (i : ℕ) → i < m.network.senders → i < s.network.senders
         inside i h = subst (λ (n : RemyNetwork). i < n.senders) d.network h
 
-    landed : (p : Picked) (o : OptionTime) → IfAny k.queued o → Has k (with_head (with_queue m (removed m.queue p o)) (head_of p o))
+    landed : (p : Picked) (o : Option Time) → IfAny k.queued o → Has k (with_head (with_queue m (removed m.queue p o)) (head_of p o))
     landed p None q = record { clock = closed.last; full = full_queue m _ m.queue d.full.queue d.full; held = held_in m.queue (head_of p None) d.queued }
     landed p (Some t) q =
         record {
@@ -300,7 +293,7 @@ module _ {k : Kinds} (s : Simulation) (closed : Closed k s.head.clock) where
               (λ j h. at_set (λ (x : Queued). IfAny k.queued x.time) no_queued m.queue p.part no_queued j (d.queued j h) tt);
         }
 
-    picked-queued : (o : OptionTime) → (pick_of m.queue).time ≡ o → IfAny k.queued o
+    picked-queued : (o : Option Time) → (pick_of m.queue).time ≡ o → IfAny k.queued o
     picked-queued None e = tt
     picked-queued (Some t) e =
         subst (IfAny k.queued) (picked-there m.queue e) (d.queued (pick_of m.queue).part (subst (λ (x : ℕ). (pick_of m.queue).part < x) d.full.queue (picked-inside m.queue e)))
@@ -359,7 +352,7 @@ module _ {k : Kinds} (s : Simulation) (closed : Closed k s.head.clock) where
 
   -- ---- a link's turn
   module _ (l : ℕ) (there : l < line_count s.network) where
-    link-ends : (left : Left) (started : Name) {m : Simulation} → Mid k s m → LeftOwn s.network.senders left
+    link-ends : (left : Left) (started : Option (ℕ × ℕ)) {m : Simulation} → Mid k s m → LeftOwn s.network.senders left
         → OnMoves (By k s) (pick_again (deliver_all (moves (left_record s l left started) (requeue m (link l))) (left_messages s.network l left)))
     link-ends Left.Nobody started d own = (refl, lands (requeued d (link l) there))
     link-ends (Left.Lost p) started d own = (refl, lands (requeued d (link l) there))
@@ -379,7 +372,7 @@ module _ {k : Kinds} (s : Simulation) (closed : Closed k s.head.clock) where
         let due = due_time now (span_of v.delay) in
         let free = next_start now size (rate_of v.rate) in
         let first : Transit = record { packet = (first_of s l).packet; due = due } in
-        let go : Transmitted = record { number = 0; begun = Begun.Starts first; line = started_line x size free } in
+        let go : Transmitted = record { number = 0; begun = Some first; line = started_line x size free } in
         let F : Transmitted → Type 0 = λ z. OnMoves (By k s) (outcome_with (link l) (link_with s l (record { left = left; line = x }) z)) in
         cond_elim F (is_free x now) (cond (leb places x.on_line.count) (not_started x 13) go) (not_started x 0)
         (λ e. cond_elim F (leb places x.on_line.count) (not_started x 13) go
@@ -400,7 +393,7 @@ module _ {k : Kinds} (s : Simulation) (closed : Closed k s.head.clock) where
               subst (All (λ z. k.due l z.due)) (sym (items_push y.ring no_transit first few))
               (all_append (λ z. k.due l z.due) (items no_transit s.on_line l x.on_line) (first ∷ []) y.due (fresh.1.0.due l, tt));
         })) own))
-        (λ e. link-ends left Name.None (with_line_lem d l there x s.waiting s.on_line d.full.waiting d.full.moving (λ j other y z. z) y) own)
+        (λ e. link-ends left None (with_line_lem d l there x s.waiting s.on_line d.full.waiting d.full.moving (λ j other y z. z) y) own)
 
     link_turn : FitState s → Mid k s s → All (Every k) (part_times s (link l)) → OnMoves (By k s) (outcome_of s (link l))
     unfolding outcome_of acts_of link_acts try_deliver
@@ -431,7 +424,7 @@ module _ {k : Kinds} (s : Simulation) (closed : Closed k s.head.clock) where
     timer_new (Policy.Grown first most) e a = tt
     timer_new (Policy.Timed most gap) e a = a.0.timer i
 
-    sent_new : (policy : Policy) (timer : OptionTime) → IfAny (k.timer i) timer → All (Every k) (first_times policy timer s.head.clock) → IfAny (k.timer i) (timer_sent policy timer s.head.clock)
+    sent_new : (policy : Policy) (timer : Option Time) → IfAny (k.timer i) timer → All (Every k) (first_times policy timer s.head.clock) → IfAny (k.timer i) (timer_sent policy timer s.head.clock)
     unfolding timer_sent
     sent_new (Policy.Held w) timer p a = p
     sent_new (Policy.Grown first most) timer p a = p
@@ -487,21 +480,21 @@ part_turn k s closed f full h role r a = role_turn s closed f (begin k s full (�
 -- ---- a tick with its new times: it does not move, or it is the turn of a part that is there, in a fit state
 
 tick_parts : (F : Ticked → List Time → Type 0) (s : Simulation) → ((number : ℕ) (ts : List Time) → F (unmoved s number) ts)
-    → (FitState s → lt (power 40) s.head.clock.0.0 ≡ false → (j : ℕ) → s.head.next ≡ Next.Part j → (role : Role) → Real s.network role
+    → (FitState s → lt (power 40) s.head.clock.0.0 ≡ false → (j : ℕ) → s.head.next ≡ Some j → (role : Role) → Real s.network role
     → F (ticked s (outcome_of s role)) (part_times s role))
     → F (tick_of s) (new_times s)
 unfolding tick_of new_times
 tick_parts F s rests goes = by (fit s) refl
   where
-    early : FitState s → (j : ℕ) → s.head.next ≡ Next.Part j → (b : Bool) → lt (power 40) s.head.clock.0.0 ≡ b
+    early : FitState s → (j : ℕ) → s.head.next ≡ Some j → (b : Bool) → lt (power 40) s.head.clock.0.0 ≡ b
         → F (cond b (unmoved s 10) (ticked s (outcome_of s (role_in s.network j)))) (cond b [] (part_times s (role_in s.network j)))
     early f j e true h = rests 10 []
     early f j e false h =
         role_at (λ (role : Role). F (ticked s (outcome_of s role)) (part_times s role)) s.network j (λ role r i. goes f h j e role r) (unfold outcome_of acts_of in rests 9 [])
 
-    with_next_lem : FitState s → (x : Next) → s.head.next ≡ x → F (tick_next s x) (times_next s x)
-    with_next_lem f Next.None e = rests 0 []
-    with_next_lem f (Next.Part j) e = early f j e (lt (power 40) s.head.clock.0.0) refl
+    with_next_lem : FitState s → (x : Option ℕ) → s.head.next ≡ x → F (tick_next s x) (times_next s x)
+    with_next_lem f None e = rests 0 []
+    with_next_lem f (Some j) e = early f j e (lt (power 40) s.head.clock.0.0) refl
 
     by : (b : Bool) → fit s ≡ b → F (cond b (tick_next s s.head.next) (unmoved s 9)) (cond b (times_next s s.head.next) [])
     by true e = with_next_lem (fit-state s e) s.head.next refl
@@ -510,7 +503,7 @@ tick_parts F s rests goes = by (fit s) refl
 -- To show F of a tick and its new times: show it of a tick that does not move; and for each turn give claims that the held and the new times have, and show F from these
 -- claims of the state after it.
 pub tick_held : (F : Ticked → List Time → Type 0) (s : Simulation) → Full s → ((number : ℕ) (ts : List Time) → F (unmoved s number) ts)
-    → (FitState s → lt (power 40) s.head.clock.0.0 ≡ false → (j : ℕ) → s.head.next ≡ Next.Part j → (role : Role) → Real s.network role
+    → (FitState s → lt (power 40) s.head.clock.0.0 ≡ false → (j : ℕ) → s.head.next ≡ Some j → (role : Role) → Real s.network role
     → (k : Kinds) × (Closed k s.head.clock × Holds k s × All (Every k) (part_times s role)
     × ((r : TickRecord) (m : Simulation) → r.time ≡ s.head.clock → Has k m → F (ticked s (moves r m)) (part_times s role))))
     → F (tick_of s) (new_times s)

@@ -1,4 +1,5 @@
 -- What a line keeps as packets arrive, start and leave: stated over its own values, so that it holds for any line. Assumes nothing.
+use Rattle.std.proofs.Common.{Option, Some, None}
 use mathlib.Core.Path.{◌≡◌, refl, sym, ap, subst, ◌∙◌}
 use mathlib.Core.Bool.{true}
 use mathlib.Core.List.{List, [], ◌∷◌, ◌++◌, map, append_assoc, cons-eq-cons}
@@ -16,8 +17,6 @@ use Rattle.quantities.specs.Units.{span_of, rate_of, amount_of, amount_over_rate
 use Rattle.link.specs.declared.packet.Packet.{Packet}
 use Rattle.link.specs.declared.packet.Waiting.{Waiting}
 use Rattle.link.specs.declared.packet.Transit.{Transit}
-use Rattle.link.specs.declared.link.Limit.{Limit}
-use Rattle.link.specs.declared.link.Limit.TheVariants as Limit
 use Rattle.link.specs.declared.link.LineValues.{LineValues}
 use Rattle.link.specs.declared.link.Line.{Line}
 use Rattle.link.specs.Ring.{places, slot_of, place_after, popped, items}
@@ -149,9 +148,9 @@ start {v} {size} {adm} {sts} {lvs} {on_line} {free} {contains} first rest clock 
     fewer : (a b c : ℕ) → a ≡ b + c → a - b ≡ c
     fewer a b c e = omega arith
 
-    limited-less : (l : Limit) (a b : ℕ) → Limited l a → Limited l (a - b)
-    limited-less Limit.None a b m = tt
-    limited-less (Limit.Bits n) a b m = omega arith
+    limited-less : (l : Option ℕ) (a b : ℕ) → Limited l a → Limited l (a - b)
+    limited-less None a b m = tt
+    limited-less (Some n) a b m = omega arith
 
 -- a packet arrives, and is admitted
 arrive : {v : LineValues} {size : PacketId → ℕ} {adm sts lvs : List Entry} {waiting : List Waiting} {on_line : List Transit} {free : Time} {contains : ℕ} (p : Packet) (clock : Time)
@@ -179,9 +178,9 @@ arrive {v} {size} {adm} {sts} {lvs} {waiting} {on_line} {free} {contains} p cloc
       limit = limited-more v.limit fits;
     }
   where
-    limited-more : (l : Limit) → admits l (amount_of contains) (amount_of (size (id_of p))) ≡ true → Limited l (contains + size (id_of p))
-    limited-more Limit.None e = tt
-    limited-more (Limit.Bits n) e = leb-true (contains + size (id_of p)) n e
+    limited-more : (l : Option ℕ) → admits l (amount_of contains) (amount_of (size (id_of p))) ≡ true → Limited l (contains + size (id_of p))
+    limited-more None e = tt
+    limited-more (Some n) e = leb-true (contains + size (id_of p)) n e
 
 -- ---- what line l keeps, with its rings in the arrays of all lines
 

@@ -1,4 +1,5 @@
 -- Lists of entries, and sums of weights over lists of packets: both go through an append; facts of every member of a list. Assumes nothing.
+use Rattle.std.proofs.Common.{Option, Some, None}
 use mathlib.Core.Path.{◌≡◌, refl, sym, ap, subst, ◌∙◌}
 use mathlib.Core.Logic.{inl, inr}
 use mathlib.Core.Bool.{Bool, true, false, ◌||◌}
@@ -14,8 +15,6 @@ use Rattle.link.specs.declared.packet.Waiting.{Waiting}
 use Rattle.link.specs.declared.ring.Ring.{Ring}
 use Rattle.link.specs.Ring.{places, slot_of, items_from, items}
 use Rattle.remy.specs.declared.simulation.Mark.{Mark}
-use Rattle.remy.specs.declared.simulation.Name.{Name}
-use Rattle.remy.specs.declared.simulation.Name.TheVariants as Name
 use Rattle.remy.specs.declared.simulation.TickRecord.{TickRecord}
 use Rattle.remy.specs.State.{total_bits}
 use Rattle.remy.specs.History.{PacketId, Entry, ids, entry_if, entries, starts_in}
@@ -38,10 +37,10 @@ map_take f (suc n) (x ∷ xs) = ap (λ l. f x ∷ l) (map_take f n xs)
 
 -- ---- entries
 
-entry_append : (b : Bool) (t : Time) (name : Name) (xs ys : List Entry) → entry_if b t name (xs ++ ys) ≡ entry_if b t name xs ++ ys
+entry_append : (b : Bool) (t : Time) (name : Option (ℕ × ℕ)) (xs ys : List Entry) → entry_if b t name (xs ++ ys) ≡ entry_if b t name xs ++ ys
 entry_append false t name xs ys = refl
-entry_append true t Name.None xs ys = refl
-entry_append true t (Name.Packet i m) xs ys = refl
+entry_append true t None xs ys = refl
+entry_append true t (Some (i , m)) xs ys = refl
 
 pub entries-append : (f : Mark → Bool) (h k : List TickRecord) → entries f (h ++ k) ≡ entries f h ++ entries f k
 entries-append f [] k = refl
@@ -62,14 +61,14 @@ module _ (f : PacketId → ℕ) where
   total-append (x ∷ xs) ys = ap (λ n. f x + n) (total-append xs ys) ∙ sym (add_assoc (f x) (total f xs) (total f ys))
 
   -- a record counts for one mark or another where it never has both
-  entry_both : (a b : Bool) (t : Time) (name : Name) (xs ys zs : List Entry) → (a ≡ true → b ≡ true → ⊥)
+  entry_both : (a b : Bool) (t : Time) (name : Option (ℕ × ℕ)) (xs ys zs : List Entry) → (a ≡ true → b ≡ true → ⊥)
       → total f (ids zs) ≡ total f (ids xs) + total f (ids ys)
       → total f (ids (entry_if (a || b) t name zs)) ≡ total f (ids (entry_if a t name xs)) + total f (ids (entry_if b t name ys))
   entry_both true true t name xs ys zs apart e = absurd (apart refl refl)
-  entry_both true false t Name.None xs ys zs apart e = e
-  entry_both true false t (Name.Packet i m) xs ys zs apart e = omega (arith, e)
-  entry_both false true t Name.None xs ys zs apart e = e
-  entry_both false true t (Name.Packet i m) xs ys zs apart e = omega (arith, e)
+  entry_both true false t None xs ys zs apart e = e
+  entry_both true false t (Some (i , m)) xs ys zs apart e = omega (arith, e)
+  entry_both false true t None xs ys zs apart e = e
+  entry_both false true t (Some (i , m)) xs ys zs apart e = omega (arith, e)
   entry_both false false t name xs ys zs apart e = e
 
   pub entries-either : (a b : Mark → Bool) → ((m : Mark) → a m ≡ true → b m ≡ true → ⊥) → (h : List TickRecord)

@@ -1,4 +1,5 @@
 -- Every record of a history is well named, and so counting named packets is counting marks. Assumes nothing.
+use Rattle.std.proofs.Common.{Option, Some, None}
 use mathlib.Core.Path.{◌≡◌, refl, sym, ap, subst, ◌∙◌}
 use mathlib.Core.Logic.{◌⊎◌, inl, inr, ⊎_elim}
 use mathlib.Core.Bool.{Bool, true, false, ◌&&◌, ◌||◌, cond, false≢true, or-true}
@@ -36,8 +37,6 @@ use Rattle.remy.specs.declared.network.RemyNetwork.{RemyNetwork}
 use Rattle.remy.specs.declared.simulation.Simulation.{Simulation}
 use Rattle.remy.specs.declared.simulation.Mark.{Mark}
 use Rattle.remy.specs.declared.simulation.Mark.TheVariants as Mark
-use Rattle.remy.specs.declared.simulation.Name.{Name}
-use Rattle.remy.specs.declared.simulation.Name.TheVariants as Name
 use Rattle.remy.specs.declared.simulation.TickRecord.{TickRecord}
 use Rattle.remy.specs.declared.simulation.Ticked.{Ticked}
 use Rattle.remy.specs.State.{line_count, values_of, Role, link, bouncer, sender, toggler, nobody, sender_part, role_in, line_at, sender_at, toggler_at, first_of, front_of, packet_bits, with_sender}
@@ -61,8 +60,8 @@ module _ (n : RemyNetwork) where
   packet-named p h = record { sender = p.sender; seq = p.seq; same = refl; inside = h }
 
   -- no start is named, or one in a link's record
-  abbrev Begins : ℕ → Name → Type 0
-  Begins part started = (started ≡ Name.None) ⊎ (NamesPacket n started × OnLine n part)
+  abbrev Begins : ℕ → Option (ℕ × ℕ) → Type 0
+  Begins part started = (started ≡ None) ⊎ (NamesPacket n started × OnLine n part)
 
   module _ (r : TickRecord) (starts : Begins r.part r.started) where
     send_named : is_send r.mark ≡ true → is_leave r.mark ≡ false → (p : NamesPacket n r.packet) × (r.part ≡ sender_part p.sender) → WellNamed n r
@@ -71,7 +70,7 @@ module _ (n : RemyNetwork) where
     leave_named : is_send r.mark ≡ false → is_leave r.mark ≡ true → NamesPacket n r.packet → (o : OnLine n r.part) × (leaves_by n o.line r.mark ≡ true) → WellNamed n r
     leave_named e f p q = record { sent = λ g. absurd (false≢true (sym e ∙ g)); left = λ g. (p, q); other = λ g h. absurd (false≢true (sym h ∙ f)); starts = starts }
 
-    other-named : is_send r.mark ≡ false → is_leave r.mark ≡ false → r.packet ≡ Name.None → WellNamed n r
+    other-named : is_send r.mark ≡ false → is_leave r.mark ≡ false → r.packet ≡ None → WellNamed n r
     other-named e f p = record { sent = λ g. absurd (false≢true (sym e ∙ g)); left = λ g. absurd (false≢true (sym f ∙ g)); other = λ g h. p; starts = starts }
 
 -- ---- a turn
@@ -98,7 +97,7 @@ module _ (s : Simulation) where
     own_line : OnLine s.network (part_of s.network.senders (link l))
     own_line = record { line = l; there = there; same = refl }
 
-    module _ (started : Name) (starts : Begins s.network (part_of s.network.senders (link l)) started) (p : Packet) (own : p.sender < s.network.senders) where
+    module _ (started : Option (ℕ × ℕ)) (starts : Begins s.network (part_of s.network.senders (link l)) started) (p : Packet) (own : p.sender < s.network.senders) where
       -- a record of this link by which a packet leaves its line
       gone_named : (mark : Mark) → is_send mark ≡ false → is_leave mark ≡ true → leaves_by s.network l mark ≡ true → WellNamed s.network (record_at s (link l) mark (named p) started)
       unfolding own_line
@@ -126,7 +125,7 @@ module _ (s : Simulation) where
           (λ dropped. gone_named Mark.FullBack refl refl (leaving Mark.FullBack (passed_on_lem s.network Mark.FullBack refl refl refl refl first.1 0))))
           (λ z. tt)
 
-    left_named : (started : Name) → Begins s.network (part_of s.network.senders (link l)) started → (left : Left) (m : Simulation) → LeftInside left
+    left_named : (started : Option (ℕ × ℕ)) → Begins s.network (part_of s.network.senders (link l)) started → (left : Left) (m : Simulation) → LeftInside left
         → OnMoves Good (pick_again (deliver_all (moves (left_record s l left started) m) (left_messages s.network l left)))
     unfolding deliver
     left_named started starts Left.Nobody m own = other-named s.network _ starts refl refl refl
@@ -147,7 +146,7 @@ module _ (s : Simulation) where
   -- ---- a sender's
 
   module _ (i : ℕ) (inside : i < s.network.senders) where
-    arrived_named : (p : Packet) → p.sender ≡ i → (m : Simulation) → OnMoves Good (pick_again (deliver (record_at s (sender i) Mark.None (named p) Name.None) m (arrives 0 p)))
+    arrived_named : (p : Packet) → p.sender ≡ i → (m : Simulation) → OnMoves Good (pick_again (deliver (record_at s (sender i) Mark.None (named p) None) m (arrives 0 p)))
     unfolding deliver
     arrived_named p own m =
         let a = receive_of (values_of m.network 0).limit (line_at m 0) (packet_bits m.network p) in
@@ -178,7 +177,7 @@ module _ (s : Simulation) where
   -- ---- a toggler's
 
   module _ (i : ℕ) where
-    switched-named : (on : Bool) → WellNamed s.network (marked (record_at s (toggler i) Mark.None Name.None Name.None) (switch_mark on))
+    switched-named : (on : Bool) → WellNamed s.network (marked (record_at s (toggler i) Mark.None None None) (switch_mark on))
     switched-named true = other-named s.network _ (inl refl) refl refl refl
     switched-named false = other-named s.network _ (inl refl) refl refl refl
 
@@ -284,16 +283,16 @@ module _ (n : RemyNetwork) where
   names_any r w e = ⊎_elim (λ (a : is_send r.mark ≡ true). (w.sent a).0) (λ (a : is_leave r.mark ≡ true). (w.left a).0) (either (is_send r.mark) (is_leave r.mark) e)
 
   -- one record more
-  one_mark : (b : Bool) (t : Time) (name : Name) (es : List Entry) (c : ℕ) → (b ≡ true → NamesPacket n name) → c ≡ length es → cond b 1 0 + c ≡ length (entry_if b t name es)
+  one_mark : (b : Bool) (t : Time) (name : Option (ℕ × ℕ)) (es : List Entry) (c : ℕ) → (b ≡ true → NamesPacket n name) → c ≡ length es → cond b 1 0 + c ≡ length (entry_if b t name es)
   one_mark false t name es c p e = omega (arith, e)
-  one_mark true t Name.None es c p e = let clash = (p refl).same in let no : ◌≡◌ {A = ℕ} 0 1 = cc in absurd (omega arith)
-  one_mark true t (Name.Packet i m) es c p e = omega (arith, e)
+  one_mark true t None es c p e = let clash = (p refl).same in let no : ◌≡◌ {A = ℕ} 0 1 = cc in absurd (omega arith)
+  one_mark true t (Some (i , m)) es c p e = omega (arith, e)
 
-  one-own : (b : Bool) (part : ℕ) (t : Time) (name : Name) (es : List Entry) (c i : ℕ) → (b ≡ true → (p : NamesPacket n name) × (part ≡ sender_part p.sender))
+  one-own : (b : Bool) (part : ℕ) (t : Time) (name : Option (ℕ × ℕ)) (es : List Entry) (c i : ℕ) → (b ≡ true → (p : NamesPacket n name) × (part ≡ sender_part p.sender))
       → c ≡ total (of_sender i) (ids es) → cond (b && eqb part (sender_part i)) 1 0 + c ≡ total (of_sender i) (ids (entry_if b t name es))
   one-own false part t name es c i p e = omega (arith, e)
-  one-own true part t Name.None es c i p e = let clash = (p refl).0.same in let no : ◌≡◌ {A = ℕ} 0 1 = cc in absurd (omega arith)
-  one-own true part t (Name.Packet j m) es c i p e =
+  one-own true part t None es c i p e = let clash = (p refl).0.same in let no : ◌≡◌ {A = ℕ} 0 1 = cc in absurd (omega arith)
+  one-own true part t (Some (j , m)) es c i p e =
       let same = (p refl).0.same in
       let own : j ≡ (p refl).0.sender = cc in
       let its : part ≡ sender_part j = (p refl).1 ∙ ap sender_part (sym own) in

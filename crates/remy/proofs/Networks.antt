@@ -1,4 +1,5 @@
 -- What an accepted network has: each range by name. Assumes nothing.
+use Rattle.std.proofs.Common.{Option, Some, None}
 use mathlib.Core.Path.{◌≡◌, refl}
 use mathlib.Core.Bool.{Bool, true, false, ◌&&◌, cond}
 use Prim.Native.Nat.{ℕ, zero, suc, ◌≤◌, ◌<◌}
@@ -15,8 +16,6 @@ use Rattle.quantities.proofs.Ranges.{Within, within_wider, test→within}
 use Rattle.link.specs.declared.link.LineValues.{LineValues}
 use Rattle.link.proofs.NewTimes as Link
 use Rattle.sender.specs.declared.lossy.Policy.TheVariants.{Timed}
-use Rattle.remy.specs.declared.network.ReturnLine.{ReturnLine}
-use Rattle.remy.specs.declared.network.ReturnLine.TheVariants as Back
 use Rattle.remy.specs.declared.network.RemyNetwork.{RemyNetwork}
 use Rattle.remy.specs.Network.{up_to, between, window_fit, gap_fit, delay_fit, rate_fit, loss_fit, limit_fit, sizes_fit, times_fit, policy_fit, values_fit, back_fit, network_stop}
 use Rattle.remy.specs.State.{back_values, values_of, sender_bits}
@@ -64,9 +63,9 @@ fit-network n e1 =
 
 -- ---- the ranges of a line
 
-back_fit_lem : (first : LineValues) (back : ReturnLine) → values_fit first ≡ true → back_fit back ≡ true → values_fit (back_values first back) ≡ true
-back_fit_lem first Back.None f b = f
-back_fit_lem first (Back.Line v) f b = b
+back_fit_lem : (first : LineValues) (back : Option LineValues) → values_fit first ≡ true → back_fit back ≡ true → values_fit (back_values first back) ≡ true
+back_fit_lem first None f b = f
+back_fit_lem first (Some v) f b = b
 
 module _ {n : RemyNetwork} (f : FitNetwork n) where
   -- each line's values; where there is no second line, its values are the first's

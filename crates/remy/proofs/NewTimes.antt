@@ -1,5 +1,6 @@
 -- Each new time that a tick works out is finite and not below the clock, where the clock is a double: a clock that 10 lets pass, with a span that the network's ranges
 -- allow. Assumes nothing.
+use Rattle.std.proofs.Common.{Option, Some, None}
 use mathlib.Core.Path.{◌≡◌, refl, subst}
 use mathlib.Core.Bool.{true, false, not, cond}
 use mathlib.Core.List.{List, []}
@@ -7,8 +8,6 @@ use Prim.Native.Nat.{ℕ, ◌<◌}
 use lib.Dec.{leb, eqb}
 use lib.Ieee.{Float, lt}
 use Rattle.quantities.specs.declared.time.Time.{Time}
-use Rattle.quantities.specs.declared.time.OptionTime.{OptionTime}
-use Rattle.quantities.specs.declared.time.OptionTime.TheVariants.{None, Some}
 use Rattle.quantities.specs.declared.time_span.TimeSpan.{TimeSpan}
 use Rattle.quantities.specs.declared.information.Information.{Information}
 use Rattle.quantities.specs.declared.information_rate.InformationRate.{InformationRate}
@@ -32,8 +31,6 @@ use Rattle.link.proofs.NewTimes.{next-start-fine, due_time_fine}
 use Rattle.link.proofs.Limits.{free_count}
 use Rattle.sender.proofs.NewTimes.{timer_in_fine}
 use Rattle.toggler.proofs.NewTimes.{next-toggle-fine}
-use Rattle.remy.specs.declared.simulation.Next.{Next}
-use Rattle.remy.specs.declared.simulation.Next.TheVariants as Next
 use Rattle.remy.specs.declared.simulation.Simulation.{Simulation}
 use Rattle.remy.specs.Network.{times_fit, policy_fit}
 use Rattle.remy.specs.State.{line_count, values_of, Role, link, bouncer, sender, toggler, nobody, line_at, sender_at, toggler_at, first_of, front_of}
@@ -84,7 +81,7 @@ module _ (s : Simulation) (f : FitState s) (P : Time → Type 0)
   gap_has (Grown first most) f = tt
   gap_has (Timed most gap) f = (timer gap (gap_within most gap f), tt)
 
-  first_has : (held : OptionTime) → All P (first_times s.network.policy held s.head.clock)
+  first_has : (held : Option Time) → All P (first_times s.network.policy held s.head.clock)
   first_has None = gap_has s.network.policy n.policy
   first_has (Some t) = tt
 
@@ -131,9 +128,9 @@ unfolding new_times
 new_times_fine s double =
     all_member (FineTime s.head.clock) (new_times s) (cond_elim (Fine s) (fit s) (times_next s s.head.next) [] (λ e. with_next_lem e s.head.next) (λ e. tt))
   where
-    with_next_lem : fit s ≡ true → (x : Next) → Fine s (times_next s x)
-    with_next_lem e Next.None = tt
-    with_next_lem e (Next.Part k) =
+    with_next_lem : fit s ≡ true → (x : Option ℕ) → Fine s (times_next s x)
+    with_next_lem e None = tt
+    with_next_lem e (Some k) =
         let f = fit-state s e in
         cond_elim (Fine s) (lt (power 40) s.head.clock.0.0) [] _ (λ late. tt)
         (λ early. role_at (λ (role : Role). Fine s (part_times s role)) s.network k (λ role r e. part_fine s double f early role r) tt)

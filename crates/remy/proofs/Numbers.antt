@@ -1,4 +1,5 @@
 -- A tick and a run give 0 or one of 8 to 13, whatever the state is. Assumes nothing.
+use Rattle.std.proofs.Common.{Option, Some, None}
 use mathlib.Core.Path.{◌≡◌, refl}
 use mathlib.Core.Logic.{inl, inr}
 use mathlib.Core.Bool.{not, cond}
@@ -26,8 +27,6 @@ use Rattle.link.specs.Ring.{places}
 use Rattle.link.specs.Link.{is_free, admits, receive_of, try_deliver, try_transmit}
 use Rattle.sender.specs.Sender.{timer_due, not_sent, sent_with, tick_send}
 use Rattle.toggler.specs.Toggler.{toggle_draw, toggle_of}
-use Rattle.remy.specs.declared.simulation.Next.{Next}
-use Rattle.remy.specs.declared.simulation.Next.TheVariants as Next
 use Rattle.remy.specs.declared.simulation.Simulation.{Simulation}
 use Rattle.remy.specs.declared.simulation.Ticked.{Ticked}
 use Rattle.remy.specs.declared.simulation.Ran.{Ran}
@@ -140,9 +139,9 @@ pub tick_number : (s : Simulation) → TickNumber (tick_of s).number
 unfolding tick_of
 tick_number s = cond_elim (λ (t : Ticked). TickNumber t.number) (fit s) (tick_next s s.head.next) (unmoved s 9) (λ e. with_next_lem s.head.next) (λ e. inr (omega arith, omega arith))
   where
-    with_next_lem : (x : Next) → TickNumber (tick_next s x).number
-    with_next_lem Next.None = inl refl
-    with_next_lem (Next.Part j) =
+    with_next_lem : (x : Option ℕ) → TickNumber (tick_next s x).number
+    with_next_lem None = inl refl
+    with_next_lem (Some j) =
         cond_elim (λ (t : Ticked). TickNumber t.number) (lt (power 40) s.head.clock.0.0) _ _ (λ late. inr (omega arith, omega arith))
         (λ early. ticked-told s (outcome_of s (role_in s.network j)) (turn_told s (role_in s.network j)))
 

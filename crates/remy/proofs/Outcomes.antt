@@ -1,4 +1,5 @@
 -- A tick that moves keeps what a simulation keeps, with the lists grown by its record: the arrival at a line and the turn of a link here. Assumes nothing.
+use Rattle.std.proofs.Common.{Option, None}
 use mathlib.Core.Path.{◌≡◌, refl, sym, ap, subst, ◌∙◌}
 use mathlib.Core.Bool.{Bool, true, false, ◌||◌, cond}
 use mathlib.Core.List.{List, [], ◌∷◌, ◌++◌, map, append-nil, Memᴰ}
@@ -36,8 +37,6 @@ use Rattle.remy.specs.declared.network.RemyNetwork.{RemyNetwork}
 use Rattle.remy.specs.declared.simulation.Simulation.{Simulation}
 use Rattle.remy.specs.declared.simulation.Mark.{Mark}
 use Rattle.remy.specs.declared.simulation.Mark.TheVariants as Mark
-use Rattle.remy.specs.declared.simulation.Name.{Name}
-use Rattle.remy.specs.declared.simulation.Name.TheVariants as Name
 use Rattle.remy.specs.declared.simulation.TickRecord.{TickRecord}
 use Rattle.remy.specs.State.{has_back, line_count, values_of, Role, link, bouncer, sender, no_waiting, no_transit, line_at, sender_at, meter_at, first_of, front_of, packet_bits, with_line, with_on_line, with_sender}
 use Rattle.remy.specs.Queue.{part_of, requeue, picked}
@@ -109,10 +108,10 @@ module _ (n : RemyNetwork) (r : TickRecord) where
   none-admitted adm p q zero = rw p (same (adm zero))
   none-admitted adm p q (suc m) = rw q (same (adm (suc m)))
 
-  pub none-started : (sts : ℕ → List Entry) → r.started ≡ Name.None → (m : ℕ) → sts m ≡ sts m ++ starts n m (r ∷ [])
+  pub none-started : (sts : ℕ → List Entry) → r.started ≡ None → (m : ℕ) → sts m ≡ sts m ++ starts n m (r ∷ [])
   none-started sts e m = rw e (by (eqb r.part (part_of n.senders (link m))))
     where
-      by : (b : Bool) → sts m ≡ sts m ++ entry_if b r.time Name.None []
+      by : (b : Bool) → sts m ≡ sts m ++ entry_if b r.time None []
       by true = same (sts m)
       by false = same (sts m)
 
@@ -120,7 +119,7 @@ module _ (n : RemyNetwork) (r : TickRecord) where
   none_left_lem lvs e m = rw (not_leaving n r.mark e m) (same (lvs m))
 
 -- the entry of a name, added to one line
-at-line : (f : ℕ → List Entry) (l m : ℕ) (b : Bool) (t : Time) (name : Name) → b ≡ eqb m l → grown f l (entry_if true t name []) m ≡ f m ++ entry_if b t name []
+at-line : (f : ℕ → List Entry) (l m : ℕ) (b : Bool) (t : Time) (name : Option (ℕ × ℕ)) → b ≡ eqb m l → grown f l (entry_if true t name []) m ≡ f m ++ entry_if b t name []
 at-line f l m b t name e = ap (λ (c : Bool). f m ++ cond c (entry_if true t name []) []) (sym e) ∙ by b
   where
     by : (c : Bool) → f m ++ cond c (entry_if true t name []) [] ≡ f m ++ entry_if c t name []
@@ -246,17 +245,17 @@ module _ {adm sts lvs : ℕ → List Entry} {snd : List Entry} {cnt : List Packe
   ok = accepted s f
 
   -- the lists after the link has acted: a packet may have started, and one may have left
-  abbrev Begun : Name → ℕ → List Entry
+  abbrev Begun : Option (ℕ × ℕ) → ℕ → List Entry
   Begun started = grown sts l (entry_if true s.head.clock started [])
 
   -- a record of this link, with its start
-  begun-on : (mark : Mark) (packet started : Name) → let r : TickRecord = record_at s (link l) mark packet started in (m : ℕ) → m < line_count s.network → Begun started m ≡ sts m ++ starts s.network m (r ∷ [])
+  begun-on : (mark : Mark) (packet started : Option (ℕ × ℕ)) → let r : TickRecord = record_at s (link l) mark packet started in (m : ℕ) → m < line_count s.network → Begun started m ≡ sts m ++ starts s.network m (r ∷ [])
   begun-on mark packet started m g =
       at-line sts l m (eqb (part_of s.network.senders (link l)) (part_of s.network.senders (link m))) s.head.clock started
       (same_part s.network.senders l m (few_lines s.network l h) (few_lines s.network m g))
 
   -- and with the packet that left
-  left_on : (mark : Mark) (p : Packet) (started : Name) → ((m : ℕ) → m < line_count s.network → leaves_by s.network m mark ≡ eqb m l)
+  left_on : (mark : Mark) (p : Packet) (started : Option (ℕ × ℕ)) → ((m : ℕ) → m < line_count s.network → leaves_by s.network m mark ≡ eqb m l)
       → let r : TickRecord = record_at s (link l) mark (named p) started in (m : ℕ) → m < line_count s.network
       → grown lvs l (entry_at s.head.clock p ∷ []) m ≡ lvs m ++ leaves s.network m (r ∷ [])
   left_on mark p started by m g = at-line lvs l m (leaves_by s.network m mark) s.head.clock (named p) (by m g)
@@ -264,7 +263,7 @@ module _ {adm sts lvs : ℕ → List Entry} {snd : List Entry} {cnt : List Packe
   -- what the rest of the turn must give, once the link has acted and is queued again
   abbrev Ends : Left → List Entry → Type 0
   Ends left gone =
-      (started : Name) (moving : List Transit) (x : Line) → Kept s.network adm (Begun started) (grown lvs l gone) snd cnt (with_line (with_on_line s moving) l x)
+      (started : Option (ℕ × ℕ)) (moving : List Transit) (x : Line) → Kept s.network adm (Begun started) (grown lvs l gone) snd cnt (with_line (with_on_line s moving) l x)
       → OnMoves Good
       (pick_again (deliver_all (moves (left_record s l left started) (requeue (with_line (with_on_line s moving) l x) (link l))) (left_messages s.network l left)))
 
@@ -277,7 +276,7 @@ module _ {adm sts lvs : ℕ → List Entry} {snd : List Entry} {cnt : List Packe
       (try_transmit x s.head.clock (get_or s.waiting (slot_of l x.waiting.start) no_waiting) (span_of (values_of s.network l).delay) (rate_of (values_of s.network l).rate))))
   act left gone x q ends =
       transmit_elim q s.head.clock (λ (t : Transmitted). OnMoves Good (outcome_with (link l) (link_with s l (record { left = left; line = x }) t)))
-      (ends Name.None s.on_line x
+      (ends None s.on_line x
       (kept_lists (λ m g. grown-none adm l m) (λ m g. refl) (λ m g. refl) refl refl
       (keep_line k l h [] [] gone s.waiting s.on_line x (λ m other i j o y z. z) (line_lists (same (adm l)) (same (sts l)) refl q))))
       (λ m e. rw e (on-stopped Good (link l) s m e))
@@ -290,8 +289,8 @@ module _ {adm sts lvs : ℕ → List Entry} {snd : List Entry} {cnt : List Packe
   -- nothing leaves
   stays : Ends Left.Nobody []
   stays started moving x q =
-      let r = record_at s (link l) Mark.None Name.None started in
-      kept_lists (λ m g. none-admitted s.network r adm refl refl m) (begun-on Mark.None Name.None started) (λ m g. grown-none lvs l m ∙ none_left_lem s.network r lvs refl m) (same snd) (same cnt)
+      let r = record_at s (link l) Mark.None None started in
+      kept_lists (λ m g. none-admitted s.network r adm refl refl m) (begun-on Mark.None None started) (λ m g. grown-none lvs l m ∙ none_left_lem s.network r lvs refl m) (same snd) (same cnt)
       (keep_picked (keep_requeue q (link l)))
 
   module _ (e : is_due (line_at s l) s.head.clock (front_of s l) ≡ true) where

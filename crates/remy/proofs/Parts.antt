@@ -1,4 +1,5 @@
 -- What a part does to the line of its packet, to its sender and to its meter keeps what a simulation keeps, with the lists grown by what it did. Assumes nothing.
+use Rattle.std.proofs.Common.{Option, Some, None}
 use mathlib.Core.Path.{◌≡◌, refl, sym, subst}
 use mathlib.Core.Bool.{Bool, true, false, not, ◌&&◌, beq, cond}
 use mathlib.Core.List.{List, [], ◌∷◌, ◌++◌, append-nil}
@@ -9,8 +10,6 @@ use lib.Dec.{T, leb, eqb}
 use lib.ListN.{get_or, set}
 use lib.Ieee.{le, eq}
 use Rattle.quantities.specs.declared.time.Time.{Time}
-use Rattle.quantities.specs.declared.time.OptionTime.{OptionTime}
-use Rattle.quantities.specs.declared.time.OptionTime.TheVariants.{None, Some}
 use Rattle.quantities.specs.Units.{span_of, rate_of, amount_over_rate, span_after}
 use Rattle.meters.specs.declared.meter.AverageFlowMeter.{AverageFlowMeter}
 use Rattle.meters.specs.declared.meter.Metered.{Metered}
@@ -20,7 +19,6 @@ use Rattle.link.specs.declared.packet.Waiting.{Waiting}
 use Rattle.link.specs.declared.packet.Transit.{Transit}
 use Rattle.link.specs.declared.link.LineValues.{LineValues}
 use Rattle.link.specs.declared.link.Line.{Line}
-use Rattle.link.specs.declared.link.Begun.TheVariants as Begun
 use Rattle.link.specs.declared.link.Transmitted.{Transmitted}
 use Rattle.link.specs.Ring.{places, slot_of, place_after}
 use Rattle.link.specs.Link.{admits, admitted, is_due, departed, is_free, started_line, not_started, try_transmit}
@@ -38,7 +36,7 @@ use Rattle.remy.proofs.Steps.{cond_elim}
 
 -- ---- a meter that is switched keeps its records
 
-pub turned-records : (m : AverageFlowMeter) (o : OptionTime) (t : Time) → (turned m o t).records ≡ m.records
+pub turned-records : (m : AverageFlowMeter) (o : Option Time) (t : Time) → (turned m o t).records ≡ m.records
 turned-records m None t = refl
 turned-records m (Some u) t = refl
 
@@ -79,11 +77,11 @@ module _ {v : LineValues} {size : PacketId → ℕ} {l : ℕ} {adm sts lvs : Lis
   pub transmit_elim : (F : Transmitted → Type 0) → F (not_started x 0) → ((m : ℕ) → eqb m 0 ≡ false → F (not_started x m))
       → (LineKept v size l adm (sts ++ (entry_at clock (get_or waiting (slot_of l x.waiting.start) no_waiting).packet ∷ [])) lvs waiting
       (set on_line (slot_of l (place_after x.on_line)) begins) afterwards
-      → F (record { number = 0; begun = Begun.Starts begins; line = afterwards }))
+      → F (record { number = 0; begun = Some begins; line = afterwards }))
       → F (try_transmit x clock (get_or waiting (slot_of l x.waiting.start) no_waiting) (span_of v.delay) (rate_of v.rate))
   unfolding try_transmit is_free
   transmit_elim F none stop go =
-      let starts : Transmitted = record { number = 0; begun = Begun.Starts begins; line = afterwards } in
+      let starts : Transmitted = record { number = 0; begun = Some begins; line = afterwards } in
       cond_elim F (is_free x clock) (cond (leb places x.on_line.count) (not_started x 13) starts) (not_started x 0)
       (λ e. cond_elim F (leb places x.on_line.count) (not_started x 13) starts (λ full. stop 13 refl)
       (λ room. go

@@ -1,4 +1,5 @@
 -- Runs with a return line (document 02, K4), computed; docs/RETURN-LINE.md tells the first tick by tick. Assumes nothing.
+use Rattle.std.proofs.Common.{Option, Some, None}
 use mathlib.Core.Path.{◌≡◌, refl}
 use mathlib.Core.Bool.{false}
 use mathlib.Core.List.{[], ◌∷◌, map}
@@ -6,18 +7,13 @@ use Prim.Native.Nat.{ℕ}
 use lib.IntN.{pos, negsuc}
 use lib.ListN.{replicate}
 use lib.Ieee.{Float, fin}
-use Rattle.quantities.specs.declared.time.OptionTime.TheVariants.{Some}
 use Rattle.quantities.specs.Doubles.{zero_f, power}
 use Rattle.quantities.specs.Units.{span_of, time_of, amount_of}
 use Rattle.draws.specs.Generator.{from_words}
-use Rattle.link.specs.declared.link.Limit.TheVariants as Limit
 use Rattle.sender.specs.declared.lossy.Policy.TheVariants.{Held}
-use Rattle.remy.specs.declared.network.ReturnLine.TheVariants as Back
 use Rattle.remy.specs.declared.network.RemyNetwork.{RemyNetwork}
 use Rattle.remy.specs.declared.simulation.Simulation.{Simulation}
 use Rattle.remy.specs.declared.simulation.Mark.TheVariants as Mark
-use Rattle.remy.specs.declared.simulation.Name.{Name}
-use Rattle.remy.specs.declared.simulation.Name.TheVariants as Name
 use Rattle.remy.specs.State.{meter_at}
 use Rattle.remy.specs.Build.{build_of}
 use Rattle.remy.specs.History.{ticks, after, history, PacketId}
@@ -32,11 +28,11 @@ six = fin false 3 (pos 1)
 abbrev network : RemyNetwork
 network =
     network_of
-    (Back.Line (record { delay = power 1; rate = power 2; loss = fin false 1 (negsuc 0); limit = Limit.Bits 8 }))
+    (Some (record { delay = power 1; rate = power 2; loss = fin false 1 (negsuc 0); limit = Some 8 }))
     (8 ∷ 4 ∷ replicate 14 0)
     2
     (power 0)
-    (Limit.Bits 12)
+    (Some 12)
     hundred
     (power 0)
     (Held 2)
@@ -45,8 +41,8 @@ abbrev returned : Simulation
 returned = (build_of network 1).simulation
 
 -- packet 1:m
-abbrev other : ℕ → Name
-other m = Name.Packet 1 m
+abbrev other : ℕ → Option (ℕ × ℕ)
+other m = Some (1 , m)
 
 -- the second link is part 6
 returned-history : history (ticks 14) returned
@@ -115,8 +111,8 @@ returned-places = refl
 
 behind : Simulation
 behind =
-    let back = Back.Line (record { delay = power 3; rate = power 0; loss = zero_f; limit = Limit.None }) in
-    after (ticks 9) (build_of (network_of back (replicate 16 8) 1 (power 0) Limit.None hundred (power 0) (Held 3)) 1).simulation
+    let back = Some (record { delay = power 3; rate = power 0; loss = zero_f; limit = None }) in
+    after (ticks 9) (build_of (network_of back (replicate 16 8) 1 (power 0) None hundred (power 0) (Held 3)) 1).simulation
 
 returned_order : waiting behind 1 ≡ id 0 2 ∷ id 0 3 ∷ []
 unfolding ticking behind

@@ -1,4 +1,5 @@
 -- A fresh simulation keeps what every later one keeps, with nothing in the history; and what holds of every fresh simulation holds of what any build returns. Assumes nothing.
+use Rattle.std.proofs.Common.{Option, Some, None}
 use mathlib.Core.Path.{◌≡◌, refl, sym, ap, subst, ◌∙◌}
 use mathlib.Core.Logic.{◌⊎◌, inl, inr, ⊎_elim}
 use mathlib.Core.Bool.{Bool, true, false, and-false}
@@ -12,7 +13,6 @@ use lib.ListN.{length, get_or, set, replicate, length-set}
 use lib.Dec.{T}
 use lib.Ieee.{lt}
 use Rattle.quantities.specs.declared.time.Time.{Time}
-use Rattle.quantities.specs.declared.time.OptionTime.TheVariants.{None}
 use Rattle.quantities.specs.Doubles.{zero_f}
 use Rattle.quantities.specs.Units.{span_of, time_of, span_after}
 use Rattle.quantities.proofs.Order.{lt→le}
@@ -21,8 +21,6 @@ use Rattle.draws.specs.declared.distribution.ContinuousDistribution.{ContinuousD
 use Rattle.draws.specs.Generator.{from_seed, child_of}
 use Rattle.draws.specs.Draws.{draw_of, redraw, positive_of}
 use Rattle.meters.specs.Meter.{new_meter}
-use Rattle.link.specs.declared.link.Limit.{Limit}
-use Rattle.link.specs.declared.link.Limit.TheVariants as Limit
 use Rattle.link.specs.Ring.{places, items}
 use Rattle.link.proofs.Items.{Sound}
 use Rattle.sender.specs.declared.lossy.LossySender.{LossySender}
@@ -130,9 +128,9 @@ none-sent : (n : RemyNetwork) (i m : ℕ) → 0 ≡ was_sent n i 0 m
 none-sent n i zero = rw (and-false (ltb i n.senders))
 none-sent n i (suc m) = rw (lt-leb (suc m) 0 (omega arith), and-false (leb 1 (suc m)), and-false (ltb i n.senders))
 
-unlimited : (l : Limit) → Limited l 0
-unlimited Limit.None = tt
-unlimited (Limit.Bits most) = zero-le
+unlimited : (l : Option ℕ) → Limited l 0
+unlimited None = tt
+unlimited (Some most) = zero-le
 
 -- the rings of a new line, in slots that are all alike
 new_ring : {A : Type 0} (x : A) (l : ℕ) → l < 2 → Sound (replicate (places * 2) x) l (record { start = 0; count = 0 })

@@ -1,23 +1,20 @@
 -- States made by hand, computed: the stops 9 to 13 at their limits and in their order, and that a refused tick changes nothing; and 20 of a build. Assumes nothing.
+use Rattle.std.proofs.Common.{Some, None}
 use mathlib.Core.Path.{◌≡◌, refl}
 use mathlib.Core.Bool.{true, false}
 use Prim.Native.Nat.{ℕ, ◌*◌}
 use lib.IntN.{negsuc}
 use lib.ListN.{replicate}
 use lib.Ieee.{Float, nan, fin}
-use Rattle.quantities.specs.declared.time.OptionTime.TheVariants.{None, Some}
 use Rattle.quantities.specs.Doubles.{zero_f, power, least}
 use Rattle.quantities.specs.Units.{time_of, amount_of}
 use Rattle.link.specs.declared.packet.Packet.{Packet}
-use Rattle.link.specs.declared.link.Limit.TheVariants as Limit
 use Rattle.link.specs.declared.link.Line.{Line}
 use Rattle.link.specs.Ring.{places}
 use Rattle.sender.specs.declared.lossy.Policy.{Policy}
 use Rattle.sender.specs.declared.lossy.Policy.TheVariants.{Held}
 use Rattle.sender.specs.declared.lossy.SenderState.TheVariants as State
-use Rattle.remy.specs.declared.network.ReturnLine.TheVariants as Back
 use Rattle.remy.specs.declared.network.RemyNetwork.{RemyNetwork}
-use Rattle.remy.specs.declared.simulation.Next.TheVariants as Next
 use Rattle.remy.specs.declared.simulation.Simulation.{Simulation}
 use Rattle.remy.specs.declared.simulation.Ticked.{Ticked}
 use Rattle.remy.specs.State.{line_at, sender_at, toggler_at, with_head, with_line, with_waiting, with_on_line, with_sender, with_toggler, with_queued}
@@ -33,7 +30,7 @@ use Rattle.remy.proofs.Examples.{hundred, network_of, built, worked, with_bits}
 -- the worked example as it was built, but with the first toggle, and so the clock, at this time
 abbrev late : Float → Simulation
 late x =
-    with_toggler (with_head worked (record { clock = time_of x; next = Next.Part 2 })) 0
+    with_toggler (with_head worked (record { clock = time_of x; next = Some 2 })) 0
     (record { enabled = false; next_toggle = time_of x; rng = (toggler_at worked 0).rng })
 
 abbrev too_late : Float
@@ -67,7 +64,7 @@ unfit-late = refl
 
 -- no limit, the sender on since 1 and next, and it may send
 abbrev on : Simulation
-on = after (ticks 1) (built (power 0) Limit.None 3)
+on = after (ticks 1) (built (power 0) None 3)
 
 -- with so many sent, all of them acknowledged
 abbrev with_sent : Simulation → ℕ → Simulation
@@ -110,7 +107,7 @@ crowded waiting on_line =
 
 -- a part is next, at this time
 abbrev at : Simulation → Float → ℕ → Simulation
-at s x k = with_head s (record { clock = time_of x; next = Next.Part k })
+at s x k = with_head s (record { clock = time_of x; next = Some k })
 
 -- a tick's number, and something of its state
 abbrev seen : {A : Type 0} → (Simulation → A) → Ticked → ℕ × A
@@ -136,7 +133,7 @@ start-refused = refl
 
 abbrev returning : Float → Policy → RemyNetwork
 returning delay policy =
-    network_of (Back.Line (record { delay = delay; rate = power 3; loss = zero_f; limit = Limit.None })) (replicate 16 8) 1 (power 0) Limit.None hundred (power 0) policy
+    network_of (Some (record { delay = delay; rate = power 3; loss = zero_f; limit = None })) (replicate 16 8) 1 (power 0) None hundred (power 0) policy
 
 abbrev on_back : Simulation
 on_back = after (ticks 1) (build_of (returning (power 0) (Held 3)) 1).simulation

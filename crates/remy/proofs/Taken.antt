@@ -1,4 +1,5 @@
 -- In a fit state whose clock is a double of at most 2^40, a meter takes every record and every switch of a tick: a tick never gives 16 to 18. Assumes nothing.
+use Rattle.std.proofs.Common.{Option, Some, None}
 use mathlib.Core.Path.{◌≡◌, refl}
 use mathlib.Core.Bool.{Bool, true, not, beq}
 use Prim.Native.Nat.{ℕ, ◌*◌, ◌≤◌, ◌<◌}
@@ -10,8 +11,6 @@ use lib.Ieee.{binary64, le, fits}
 use lib.Ieee.Bits.{is_true}
 use lib.Ieee.Scale.{finite}
 use Rattle.quantities.specs.declared.time.Time.{Time}
-use Rattle.quantities.specs.declared.time.OptionTime.{OptionTime}
-use Rattle.quantities.specs.declared.time.OptionTime.TheVariants.{None, Some}
 use Rattle.quantities.specs.Doubles.{zero_f, power, in_range}
 use Rattle.quantities.specs.Units.{amount_of, since}
 use Rattle.quantities.proofs.Order.{le_trans}
@@ -39,14 +38,14 @@ module _ {m : AverageFlowMeter} {clock : Time} {size : ℕ} (f : MeterFacts m cl
   clock_in_range : in_range zero_f (power 41) clock.0.0 ≡ true
   clock_in_range = range_i zero_f (power 41) clock.0.0 f.from_zero wide
 
-  start_in_range : (o : OptionTime) → m.current_start ≡ o → start_fit o ≡ true
+  start_in_range : (o : Option Time) → m.current_start ≡ o → start_fit o ≡ true
   unfolding start_fit
   start_in_range None e = refl
   start_in_range (Some t) e =
       let inside = f.start t e in
       range_i zero_f (power 41) t.0.0 (range_low zero_f clock.0.0 t.0.0 inside) (le_trans t.0.0 clock.0.0 (power 41) (range_high zero_f clock.0.0 t.0.0 inside) wide)
 
-  start-not_after : (o : OptionTime) → m.current_start ≡ o → not_before o clock ≡ true
+  start-not_after : (o : Option Time) → m.current_start ≡ o → not_before o clock ≡ true
   start-not_after None e = refl
   start-not_after (Some t) e = is_true (le t.0.0 clock.0.0) (range_high zero_f clock.0.0 t.0.0 (f.start t e))
 

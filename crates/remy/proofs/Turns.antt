@@ -1,4 +1,5 @@
 -- The turns of a sender and of a toggler keep what a simulation keeps, and so does every tick. Assumes nothing.
+use Rattle.std.proofs.Common.{None}
 use mathlib.Core.Path.{◌≡◌, refl}
 use mathlib.Core.Bool.{Bool, true, false, not}
 use mathlib.Core.List.{List, [], ◌∷◌, ◌++◌}
@@ -21,7 +22,6 @@ use Rattle.sender.specs.Sender.{window_sent, timer_sent, timer_due, tick_timer, 
 use Rattle.toggler.specs.Toggler.{next_toggle_of, toggle_draw, toggle_of}
 use Rattle.remy.specs.declared.simulation.Simulation.{Simulation}
 use Rattle.remy.specs.declared.simulation.Mark.TheVariants as Mark
-use Rattle.remy.specs.declared.simulation.Name.TheVariants as Name
 use Rattle.remy.specs.declared.simulation.TickRecord.{TickRecord}
 use Rattle.remy.specs.State.{has_back, Role, bouncer, sender, toggler, nobody, role_in, sender_at, toggler_at, with_sender, with_toggler}
 use Rattle.remy.specs.Queue.{requeue}
@@ -42,7 +42,7 @@ use Rattle.remy.proofs.Outcomes.{OnMoves, Grown, same, on-stopped, none-admitted
 
 -- an S record admits its packet to the first line
 first-admitted : (adm : ℕ → List Entry) (t : Time) (part : ℕ) (p : Packet) (m : ℕ)
-    → grown adm 0 (entry_at t p ∷ []) m ≡ adm m ++ admissions m (record { time = t; part = part; mark = Mark.Sent; packet = named p; started = Name.None } ∷ [])
+    → grown adm 0 (entry_at t p ∷ []) m ≡ adm m ++ admissions m (record { time = t; part = part; mark = Mark.Sent; packet = named p; started = None } ∷ [])
 first-admitted adm t part p zero = refl
 first-admitted adm t part p (suc m) = rw (ne_eqb (suc m) 0 (λ (e : suc m ≡ 0). omega arith))
 
@@ -52,7 +52,7 @@ module _ {adm sts lvs : ℕ → List Entry} {snd : List Entry} {cnt : List Packe
   Good = Grown s.network adm sts lvs snd cnt
 
   -- a record by which nothing starts or leaves, and nothing is admitted
-  quiet : (r : TickRecord) → is_s r.mark ≡ false → is_p r.mark ≡ false → r.started ≡ Name.None → is_leave r.mark ≡ false → (m : Simulation) → {snd' : List Entry} {cnt' : List PacketId}
+  quiet : (r : TickRecord) → is_s r.mark ≡ false → is_p r.mark ≡ false → r.started ≡ None → is_leave r.mark ≡ false → (m : Simulation) → {snd' : List Entry} {cnt' : List PacketId}
       → Kept s.network adm sts lvs snd' cnt' m → snd' ≡ snd ++ sends (r ∷ []) → cnt' ≡ cnt ++ counted (r ∷ []) → Good r m
   quiet r a b c d m q snd-same cnt-same =
       kept_lists (λ l g. none-admitted s.network r adm a b l) (λ l g. none-started s.network r sts c l) (λ l g. none_left_lem s.network r lvs d l) snd-same cnt-same q
@@ -73,14 +73,14 @@ module _ {adm sts lvs : ℕ → List Entry} {snd : List Entry} {cnt : List Packe
       sent_kept = keep_requeue (count-sent k i (enabled_sender (sender_at s i) ((sender_at s i).packets_sent + 1) e) s.head.clock h (few_senders (accepted s f)) refl) (sender i)
 
       -- admitted, dropped full, or refused; the account does not read the record's part
-      arrival_good : (part : ℕ) → OnMoves Good (pick_again (deliver (record { time = s.head.clock; part = part; mark = Mark.None; packet = named next; started = Name.None }) after_send (arrives 0 next)))
+      arrival_good : (part : ℕ) → OnMoves Good (pick_again (deliver (record { time = s.head.clock; part = part; mark = Mark.None; packet = named next; started = None }) after_send (arrives 0 next)))
       unfolding after_send next requeue
       arrival_good part =
-          let r : TickRecord = record { time = s.head.clock; part = part; mark = Mark.None; packet = named next; started = Name.None } in
-          let sent : TickRecord = record { time = s.head.clock; part = part; mark = Mark.Sent; packet = named next; started = Name.None } in
+          let r : TickRecord = record { time = s.head.clock; part = part; mark = Mark.None; packet = named next; started = None } in
+          let sent : TickRecord = record { time = s.head.clock; part = part; mark = Mark.Sent; packet = named next; started = None } in
           arrival_elim sent_kept 0 (first-there (has_back s.network.back)) next r Good
           (λ m z. kept_lists (λ l g. first-admitted adm s.head.clock part next l) (λ l g. none-started s.network sent sts refl l) (λ l g. none_left_lem s.network sent lvs refl l) refl (same cnt) z)
-          (λ m z. quiet (record { time = s.head.clock; part = part; mark = Mark.Full; packet = named next; started = Name.None }) refl refl refl refl m z refl (same cnt))
+          (λ m z. quiet (record { time = s.head.clock; part = part; mark = Mark.Full; packet = named next; started = None }) refl refl refl refl m z refl (same cnt))
 
     turn_with : (x : SenderState) → (sender_at s i).state ≡ x → OnMoves Good (outcome_with (sender i) (sender_with s i x))
     unfolding tick_send next after_send
@@ -92,7 +92,7 @@ module _ {adm sts lvs : ℕ → List Entry} {snd : List Entry} {cnt : List Packe
         let t = tick_timer policy e now in
         let timer = timer_sent policy e.timer now in
         cond_elim (λ (a : Acted). OnMoves Good (outcome_with (sender i) a)) (timer_due e now) (timer_with s i t) (send_with s i (tick_send sent policy e now i))
-        (λ due. quiet (record_at s (sender i) Mark.Timer Name.None Name.None) refl refl refl refl _ (keep_picked (keep_requeue (keep_sender k i (enabled_sender (sender_at s i) sent t) refl) (sender i))) (same snd) (same cnt))
+        (λ due. quiet (record_at s (sender i) Mark.Timer None None) refl refl refl refl _ (keep_picked (keep_requeue (keep_sender k i (enabled_sender (sender_at s i) sent t) refl) (sender i))) (same snd) (same cnt))
         (λ due. cond_elim (λ (a : Sent). OnMoves Good (outcome_with (sender i) (send_with s i a))) (leb 16777216 sent) (not_sent sent e now i) (sent_with sent policy e now i)
         (λ spent. tt)
         (λ room. arrival_good (record { started = e.started; greatest_ack = e.greatest_ack; cwnd = window_sent policy e.cwnd; timer = timer }) _))
@@ -105,13 +105,13 @@ module _ {adm sts lvs : ℕ → List Entry} {snd : List Entry} {cnt : List Packe
   module _ (i : ℕ) where
     -- the sender and its meter are switched
     switch_good : (st : Simulation) (on : Bool) → Kept s.network adm sts lvs snd cnt st
-        → OnMoves Good (pick_again (switch_with (record_at s (toggler i) Mark.None Name.None Name.None) st i on))
+        → OnMoves Good (pick_again (switch_with (record_at s (toggler i) Mark.None None None) st i on))
     unfolding enabled_of disabled_of
     switch_good st true q =
-        quiet (record_at s (toggler i) Mark.Enabled Name.None Name.None) refl refl refl refl _
+        quiet (record_at s (toggler i) Mark.Enabled None None) refl refl refl refl _
         (keep_picked (keep_requeue (keep_switch (keep_sender q i (switched_sender st i true) refl) i true) (sender i))) (same snd) (same cnt)
     switch_good st false q =
-        quiet (record_at s (toggler i) Mark.Disabled Name.None Name.None) refl refl refl refl _
+        quiet (record_at s (toggler i) Mark.Disabled None None) refl refl refl refl _
         (keep_picked (keep_requeue (keep_switch (keep_sender q i (switched_sender st i false) refl) i false) (sender i))) (same snd) (same cnt)
 
     pub toggler_good : OnMoves Good (outcome_of s (toggler i))

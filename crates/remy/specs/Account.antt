@@ -1,14 +1,12 @@
 -- Demand 3: the account of packets, as one claim about every list of calls from a fresh simulation. Definitions only; the proof is in proofs/.
 -- Dropped full, lost, counted, old and ignored are read in the history alone, waiting and on a line in the last state's rings alone.
-use Rattle.std.specs.Prelude.{ℕ, ◌+◌, ◌≤◌, ◌<◌, ◌≡◌, ◌&&◌, cond, List, [], ◌∷◌, ◌++◌, map, length, take, T, ltb, eqb}
+use Rattle.std.specs.Prelude.{ℕ, ◌+◌, ◌≤◌, ◌<◌, ◌≡◌, ◌&&◌, cond, List, [], ◌∷◌, ◌++◌, map, length, take, T, ltb, eqb, Option, Some, None}
 use Rattle.std.specs.Float.Ieee.{le}
 use Rattle.quantities.specs.declared.time_span.TimeSpan.{TimeSpan}
 use Rattle.quantities.specs.Units.{span_of, rate_of, amount_of, amount_over_rate, span_after}
 use Rattle.link.specs.declared.packet.Waiting.{Waiting}
 use Rattle.link.specs.declared.packet.Transit.{Transit}
 use Rattle.link.specs.declared.link.LineValues.{LineValues}
-use Rattle.link.specs.declared.link.Limit.{Limit}
-use Rattle.link.specs.declared.link.Limit.TheVariants as Limit
 use Rattle.remy.specs.declared.network.RemyNetwork.{RemyNetwork}
 use Rattle.remy.specs.declared.simulation.Simulation.{Simulation}
 use Rattle.remy.specs.declared.simulation.TickRecord.{TickRecord}
@@ -43,9 +41,9 @@ Spaced apart (x ∷ []) = Unit {0}
 Spaced apart (x ∷ (y ∷ ys)) = T (le (span_after x.time (apart x.packet)).0.0 y.time.0.0) × Spaced apart (y ∷ ys)
 
 -- with a limit set, waiting bits are at most it
-abbrev pub Limited : Limit → ℕ → Type 0
-Limited Limit.None bits = Unit {0}
-Limited (Limit.Bits most) bits = bits ≤ most
+abbrev pub Limited : Option ℕ → ℕ → Type 0
+Limited None bits = Unit {0}
+Limited (Some most) bits = bits ≤ most
 
 pub record LineAccount (v : LineValues) (size : PacketId → ℕ) (admitted started left : List Entry)
     (waiting : List Waiting) (on_line : List Transit) (contains : ℕ) : Type 0 where

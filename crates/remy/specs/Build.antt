@@ -1,6 +1,5 @@
 -- Document 01, "Tick and history", "Toggler" and the row 8 of "Stops", and document 02, K4: the built state, and the empty simulation. Definitions only.
-use Rattle.std.specs.Prelude.{ℕ, zero, suc, ◌+◌, ◌*◌, false, cond, List, [], ◌∷◌, set, replicate, eqb}
-use Rattle.quantities.specs.declared.time.OptionTime.TheVariants.{None}
+use Rattle.std.specs.Prelude.{ℕ, zero, suc, ◌+◌, ◌*◌, false, cond, List, [], ◌∷◌, set, replicate, eqb, None}
 use Rattle.quantities.specs.Doubles.{zero_f, power, least}
 use Rattle.quantities.specs.Units.{time_of, amount_of}
 use Rattle.draws.specs.declared.generator.Rng.{Rng}
@@ -11,7 +10,6 @@ use Rattle.meters.specs.Meter.{new_meter}
 use Rattle.link.specs.declared.packet.Packet.{Packet}
 use Rattle.link.specs.declared.packet.Waiting.{Waiting}
 use Rattle.link.specs.declared.packet.Transit.{Transit}
-use Rattle.link.specs.declared.link.Limit.TheVariants as Limit
 use Rattle.link.specs.declared.link.Line.{Line}
 use Rattle.link.specs.Ring.{places}
 use Rattle.sender.specs.declared.lossy.Policy.TheVariants.{Held}
@@ -21,9 +19,7 @@ use Rattle.toggler.specs.declared.toggler.Toggler.{Toggler}
 use Rattle.toggler.specs.declared.tick_queue.Queued.{Queued}
 use Rattle.toggler.specs.Queue.{queue_places, no_queued}
 use Rattle.toggler.specs.Toggler.{new_toggler}
-use Rattle.remy.specs.declared.network.ReturnLine.TheVariants as Back
 use Rattle.remy.specs.declared.network.RemyNetwork.{RemyNetwork}
-use Rattle.remy.specs.declared.simulation.Next.TheVariants as Next
 use Rattle.remy.specs.declared.simulation.Simulation.{Simulation}
 use Rattle.remy.specs.declared.simulation.Built.{Built}
 use Rattle.remy.specs.Network.{network_stop}
@@ -94,7 +90,7 @@ abbrev pub unqueued : RemyNetwork → Rng → Rng → Parts → Simulation
 unqueued n link back parts =
     record {
       network = n;
-      head = record { clock = time_of zero_f; next = Next.None };
+      head = record { clock = time_of zero_f; next = None };
       lines = new_line link ∷ (new_line back ∷ []);
       waiting = replicate (places * 2) blank_waiting;
       on_line = replicate (places * 2) blank_transit;
@@ -117,8 +113,8 @@ queued_all s = with_queue s (own_times s queue_places 0)
 abbrev pub empty_network : RemyNetwork
 empty_network =
     record {
-      line = record { delay = zero_f; rate = power 0; loss = zero_f; limit = Limit.None };
-      back = Back.None;
+      line = record { delay = zero_f; rate = power 0; loss = zero_f; limit = None };
+      back = None;
       bits = replicate 16 1;
       senders = 0;
       on = Always (power 0);
@@ -134,7 +130,7 @@ unfoldable pub empty_simulation : Simulation
 empty_simulation =
     record {
       network = empty_network;
-      head = record { clock = end_of_time; next = Next.None };
+      head = record { clock = end_of_time; next = None };
       lines = new_line empty_words ∷ (new_line blank_words ∷ []);
       waiting = replicate (places * 2) blank_waiting;
       on_line = replicate (places * 2) blank_transit;

@@ -1,11 +1,9 @@
 -- Document 01, the paragraph "Unfit" below "Stops": a clause each, in the paragraph's order, then document 02's, and their conjunction. Definitions only.
 -- Each definition says what a fit state has; a state in which one is false is unfit (9). Only the network's own lines, senders, togglers and meters are read.
-use Rattle.std.specs.Prelude.{ℕ, zero, suc, ◌+◌, ◌*◌, Bool, true, false, not, ◌&&◌, ◌||◌, cond, List, [], ◌∷◌, leb, ltb, eqb}
+use Rattle.std.specs.Prelude.{ℕ, zero, suc, ◌+◌, ◌*◌, Bool, true, false, not, ◌&&◌, ◌||◌, cond, List, [], ◌∷◌, leb, ltb, eqb, Option, Some, None}
 use Rattle.std.specs.Bool.{beq}
 use Rattle.std.specs.Float.Ieee.{le, eq}
 use Rattle.quantities.specs.declared.time.Time.{Time}
-use Rattle.quantities.specs.declared.time.OptionTime.{OptionTime}
-use Rattle.quantities.specs.declared.time.OptionTime.TheVariants.{None, Some}
 use Rattle.quantities.specs.Doubles.{zero_f, power, largest, in_range}
 use Rattle.draws.specs.Generator.{all_zero}
 use Rattle.meters.specs.Meter.{is_on, total_fit, sum_fit}
@@ -19,8 +17,6 @@ use Rattle.sender.specs.declared.lossy.SenderState.TheVariants as State
 use Rattle.sender.specs.declared.lossy.Enabled.{Enabled}
 use Rattle.link.specs.Ring.{places}
 use Rattle.toggler.specs.Queue.{queue_places}
-use Rattle.remy.specs.declared.simulation.Next.{Next}
-use Rattle.remy.specs.declared.simulation.Next.TheVariants as Next
 use Rattle.remy.specs.declared.simulation.Simulation.{Simulation}
 use Rattle.remy.specs.Network.{up_to, between, window_fit, network_stop}
 use Rattle.remy.specs.State.{line_count, line_at, sender_at, toggler_at, meter_at, queued_at, waiting_items, waiting_packets, on_line_items, on_line_packets, sender_bits, packet_bits, total_bits}
@@ -74,19 +70,19 @@ clock_fit s = le zero_f s.head.clock.0.0
 abbrev pub held : Time → Bool
 held t = le t.0.0 (power 41)
 
-abbrev pub held_if_any : OptionTime → Bool
+abbrev pub held_if_any : Option Time → Bool
 held_if_any None = true
 held_if_any (Some t) = held t
 
-abbrev pub is_idle : Next → Bool
-is_idle Next.None = true
-is_idle (Next.Part k) = false
+abbrev pub is_idle : Option ℕ → Bool
+is_idle None = true
+is_idle (Some k) = false
 
 abbrev pub held_sender : SenderState → Bool
 held_sender State.WaitingForEnable = true
 held_sender (State.Enabled e) = held e.started && held_if_any e.timer
 
-abbrev pub held_queued : Simulation → OptionTime → Bool
+abbrev pub held_queued : Simulation → Option Time → Bool
 held_queued s None = true
 held_queued s (Some t) = held t && le s.head.clock.0.0 t.0.0
 
@@ -110,7 +106,7 @@ abbrev pub started_fit : Simulation → SenderState → Bool
 started_fit s State.WaitingForEnable = true
 started_fit s (State.Enabled e) = since_start s e.started
 
-abbrev pub meter_start_fit : Simulation → OptionTime → Bool
+abbrev pub meter_start_fit : Simulation → Option Time → Bool
 meter_start_fit s None = true
 meter_start_fit s (Some t) = since_start s t
 
@@ -200,20 +196,20 @@ unfoldable pub meter_bits_fit : Simulation → Bool
 meter_bits_fit s = each_sender s (λ i. eqb (meter_at s i).total.0 ((meter_at s i).records * (sender_bits s.network i).0))
 
 -- a next component whose own next time isn't the clock, none though a part is queued,
-abbrev pub same_time : OptionTime → OptionTime → Bool
+abbrev pub same_time : Option Time → Option Time → Bool
 same_time None None = true
 same_time None (Some u) = false
 same_time (Some t) None = false
 same_time (Some t) (Some u) = eq t.0.0 u.0.0
 
-abbrev pub next_fit : Simulation → Next → Bool
-next_fit s Next.None = up_to queue_places (λ k. not (is_on (queued_at s k)))
-next_fit s (Next.Part j) = same_time (Some s.head.clock) (next_time_of s j)
+abbrev pub next_fit : Simulation → Option ℕ → Bool
+next_fit s None = up_to queue_places (λ k. not (is_on (queued_at s k)))
+next_fit s (Some j) = same_time (Some s.head.clock) (next_time_of s j)
 
 -- the place of the next part itself is read by no test of this clause
-abbrev pub is_next : Next → ℕ → Bool
-is_next Next.None k = false
-is_next (Next.Part j) k = eqb j k
+abbrev pub is_next : Option ℕ → ℕ → Bool
+is_next None k = false
+is_next (Some j) k = eqb j k
 
 -- or another part whose queued time isn't its own next time (queued with none, or not queued with one, included)
 unfoldable pub queue_fit : Simulation → Bool

@@ -1,9 +1,7 @@
 -- The times that a state holds, by kind, and claims of each kind. Definitions only; no tick reads them, and theorems cite them.
-use Rattle.std.specs.Prelude.{ℕ, ◌*◌, ◌<◌, ◌≡◌, length}
+use Rattle.std.specs.Prelude.{ℕ, ◌*◌, ◌<◌, ◌≡◌, length, Option, Some, None}
 use mathlib.Core.List.{List, map, Memᴰ}
 use Rattle.quantities.specs.declared.time.Time.{Time}
-use Rattle.quantities.specs.declared.time.OptionTime.{OptionTime}
-use Rattle.quantities.specs.declared.time.OptionTime.TheVariants.{None, Some}
 use Rattle.sender.specs.declared.lossy.SenderState.{SenderState}
 use Rattle.sender.specs.declared.lossy.SenderState.TheVariants as State
 use Rattle.link.specs.Ring.{places}
@@ -29,11 +27,11 @@ pub record Kinds : Type 1 where
   pub toggle : ℕ → Time → Type 0
   pub queued : Time → Type 0
 
-abbrev pub IfAny : (Time → Type 0) → OptionTime → Type 0
+abbrev pub IfAny : (Time → Type 0) → Option Time → Type 0
 IfAny P None = Unit {0}
 IfAny P (Some t) = P t
 
-abbrev pub timer_of : SenderState → OptionTime
+abbrev pub timer_of : SenderState → Option Time
 timer_of State.WaitingForEnable = None
 timer_of (State.Enabled e) = e.timer
 

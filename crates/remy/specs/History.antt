@@ -1,13 +1,11 @@
 -- Document 01, "Tick and history": the calls, the history, and the lists that the account reads in it. Definitions only.
-use Rattle.std.specs.Prelude.{ℕ, zero, suc, ◌≡◌, Bool, true, false, ◌||◌, cond, List, [], ◌∷◌, map, eqb}
+use Rattle.std.specs.Prelude.{ℕ, zero, suc, ◌≡◌, Bool, true, false, ◌||◌, cond, List, [], ◌∷◌, map, eqb, Option, Some, None}
 use Rattle.quantities.specs.declared.time.Time.{Time}
 use Rattle.link.specs.declared.packet.Packet.{Packet}
 use Rattle.remy.specs.declared.network.RemyNetwork.{RemyNetwork}
 use Rattle.remy.specs.declared.simulation.Simulation.{Simulation}
 use Rattle.remy.specs.declared.simulation.Mark.{Mark}
 use Rattle.remy.specs.declared.simulation.Mark.TheVariants as Mark
-use Rattle.remy.specs.declared.simulation.Name.{Name}
-use Rattle.remy.specs.declared.simulation.Name.TheVariants as Name
 use Rattle.remy.specs.declared.simulation.TickRecord.{TickRecord}
 use Rattle.remy.specs.declared.simulation.Ticked.{Ticked}
 use Rattle.remy.specs.Build.{build_of}
@@ -68,10 +66,10 @@ abbrev pub times : List Entry → List Time
 times es = map (λ e. e.time) es
 
 -- the entry of a packet that a record names, if it does
-abbrev pub entry_if : Bool → Time → Name → List Entry → List Entry
+abbrev pub entry_if : Bool → Time → Option (ℕ × ℕ) → List Entry → List Entry
 entry_if false t name es = es
-entry_if true t Name.None es = es
-entry_if true t (Name.Packet i m) es = record { time = t; packet = record { sender = i; seq = m } } ∷ es
+entry_if true t None es = es
+entry_if true t (Some (i , m)) es = record { time = t; packet = record { sender = i; seq = m } } ∷ es
 
 -- the packets that the records with certain marks are about, each at its record's time
 abbrev pub entries : (Mark → Bool) → List TickRecord → List Entry

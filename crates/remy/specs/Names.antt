@@ -1,11 +1,9 @@
 -- Document 01, "Tick and history": which packet a record names, and that counting named packets is counting marks. Definitions only; the proofs are in proofs/.
-use Rattle.std.specs.Prelude.{ℕ, ◌+◌, ◌<◌, ◌≡◌, ◌⊎◌, Bool, true, false, ◌&&◌, ◌||◌, cond, length, eqb}
+use Rattle.std.specs.Prelude.{ℕ, ◌+◌, ◌<◌, ◌≡◌, ◌⊎◌, Bool, true, false, ◌&&◌, ◌||◌, cond, length, eqb, Option, Some, None}
 use mathlib.Core.List.{List, [], ◌∷◌, Memᴰ}
 use Rattle.remy.specs.declared.network.RemyNetwork.{RemyNetwork}
 use Rattle.remy.specs.declared.simulation.Simulation.{Simulation}
 use Rattle.remy.specs.declared.simulation.Mark.{Mark}
-use Rattle.remy.specs.declared.simulation.Name.{Name}
-use Rattle.remy.specs.declared.simulation.Name.TheVariants as Name
 use Rattle.remy.specs.declared.simulation.TickRecord.{TickRecord}
 use Rattle.remy.specs.State.{line_count, link, sender_part, sender_at}
 use Rattle.remy.specs.Queue.{part_of}
@@ -22,10 +20,10 @@ abbrev pub is_leave : Mark → Bool
 is_leave m = is_l m || (is_n m || (is_p m || (is_q m || comes_back m)))
 
 -- a packet of a sender of the network
-pub record NamesPacket (n : RemyNetwork) (name : Name) : Type 0 where
+pub record NamesPacket (n : RemyNetwork) (name : Option (ℕ × ℕ)) : Type 0 where
   pub sender : ℕ
   pub seq : ℕ
-  pub same : name ≡ Name.Packet sender seq
+  pub same : name ≡ Some (sender , seq)
   pub inside : sender < n.senders
 
 -- a line of the network whose link is this part
@@ -41,9 +39,9 @@ pub record WellNamed (n : RemyNetwork) (r : TickRecord) : Type 0 where
   -- an L, C, O, I, P, Q or N record is the part of the link whose line the packet leaves by it, and names the packet
   pub left : is_leave r.mark ≡ true → NamesPacket n r.packet × ((o : OnLine n r.part) × (leaves_by n o.line r.mark ≡ true))
   -- a record with another mark names none
-  pub other : is_send r.mark ≡ false → is_leave r.mark ≡ false → r.packet ≡ Name.None
+  pub other : is_send r.mark ≡ false → is_leave r.mark ≡ false → r.packet ≡ None
   -- and a record that names a packet as started is a link's
-  pub starts : (r.started ≡ Name.None) ⊎ (NamesPacket n r.started × OnLine n r.part)
+  pub starts : (r.started ≡ None) ⊎ (NamesPacket n r.started × OnLine n r.part)
 
 -- every record of every history
 abbrev pub MarksName : Type 0

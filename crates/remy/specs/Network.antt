@@ -1,17 +1,13 @@
 -- Document 01, "Stops", rows 1 to 7, and document 02, K4, 20: the ranges of a network. Definitions only. Ranges include both ends; NaN is in none; of several the first tested.
-use Rattle.std.specs.Prelude.{ℕ, zero, suc, Bool, true, false, ◌&&◌, cond, List, leb, get_or, negsuc, Float}
+use Rattle.std.specs.Prelude.{ℕ, zero, suc, Bool, true, false, ◌&&◌, cond, List, leb, get_or, negsuc, Float, Option, Some, None}
 use Rattle.std.specs.Float.{fin}
 use Rattle.std.specs.Float.Ieee.{lt, le}
 use Rattle.quantities.specs.Doubles.{zero_f, power, in_range}
 use Rattle.draws.specs.declared.distribution.ContinuousDistribution.{ContinuousDistribution}
 use Rattle.draws.specs.declared.distribution.ContinuousDistribution.TheVariants.{Always, Uniform}
-use Rattle.link.specs.declared.link.Limit.{Limit}
-use Rattle.link.specs.declared.link.Limit.TheVariants as Limit
 use Rattle.link.specs.declared.link.LineValues.{LineValues}
 use Rattle.sender.specs.declared.lossy.Policy.{Policy}
 use Rattle.sender.specs.declared.lossy.Policy.TheVariants.{Held, Grown, Timed}
-use Rattle.remy.specs.declared.network.ReturnLine.{ReturnLine}
-use Rattle.remy.specs.declared.network.ReturnLine.TheVariants as Back
 use Rattle.remy.specs.declared.network.RemyNetwork.{RemyNetwork}
 
 -- a test of every number below n
@@ -36,9 +32,9 @@ abbrev pub loss_fit : Float → Bool
 loss_fit loss = in_range zero_f (power 0) loss
 
 -- 4: limit present and above 2^50 bits
-abbrev pub limit_fit : Limit → Bool
-limit_fit Limit.None = true
-limit_fit (Limit.Bits most) = leb most 1125899906842624
+abbrev pub limit_fit : Option ℕ → Bool
+limit_fit None = true
+limit_fit (Some most) = leb most 1125899906842624
 
 -- 5: packet bits not in 1..2^24, or over 16 senders. Each sender's own bits are read (document 02, K1), and with no senders none.
 abbrev pub sizes_fit : List ℕ → ℕ → Bool
@@ -67,9 +63,9 @@ policy_fit (Timed most gap) = window_fit most && gap_fit gap
 abbrev pub values_fit : LineValues → Bool
 values_fit v = delay_fit v.delay && rate_fit v.rate && loss_fit v.loss && limit_fit v.limit
 
-abbrev pub back_fit : ReturnLine → Bool
-back_fit Back.None = true
-back_fit (Back.Line v) = values_fit v
+abbrev pub back_fit : Option LineValues → Bool
+back_fit None = true
+back_fit (Some v) = values_fit v
 
 -- the number of the first cause, or 0; 20 is tested after 7
 unfoldable pub network_stop : RemyNetwork → ℕ

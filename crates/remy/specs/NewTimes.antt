@@ -1,10 +1,8 @@
 -- Document 02, K6: the new times that a tick of a state works out in doubles. Definitions only; that they are finite and not below the clock is proved in proofs/.
-use Rattle.std.specs.Prelude.{ℕ, cond, leb, eqb}
+use Rattle.std.specs.Prelude.{ℕ, cond, leb, eqb, Option, Some, None}
 use mathlib.Core.List.{List, [], ◌∷◌, Memᴰ}
 use Rattle.std.specs.Float.Ieee.{lt}
 use Rattle.quantities.specs.declared.time.Time.{Time}
-use Rattle.quantities.specs.declared.time.OptionTime.{OptionTime}
-use Rattle.quantities.specs.declared.time.OptionTime.TheVariants.{None, Some}
 use Rattle.quantities.specs.Doubles.{power}
 use Rattle.quantities.specs.Units.{span_of, rate_of}
 use Rattle.quantities.specs.NewTime.{FineTime}
@@ -17,8 +15,6 @@ use Rattle.link.specs.Ring.{places}
 use Rattle.link.specs.Link.{try_deliver, is_free, next_start, due_time}
 use Rattle.sender.specs.Sender.{timer_due, timer_in}
 use Rattle.toggler.specs.Toggler.{next_toggle_of, toggle_draw}
-use Rattle.remy.specs.declared.simulation.Next.{Next}
-use Rattle.remy.specs.declared.simulation.Next.TheVariants as Next
 use Rattle.remy.specs.declared.simulation.Simulation.{Simulation}
 use Rattle.remy.specs.State.{values_of, Role, link, bouncer, sender, toggler, nobody, role_in, line_at, sender_at, toggler_at, first_of, front_of}
 use Rattle.remy.specs.Fit.{fit}
@@ -43,7 +39,7 @@ gap_times (Grown first most) clock = []
 gap_times (Timed most gap) clock = timer_in clock gap ∷ []
 
 -- a first send is one that finds no timer held
-abbrev pub first_times : Policy → OptionTime → Time → List Time
+abbrev pub first_times : Policy → Option Time → Time → List Time
 first_times policy None clock = gap_times policy clock
 first_times policy (Some t) clock = []
 
@@ -68,9 +64,9 @@ part_times s (toggler i) = toggler_times s i
 part_times s nobody = []
 
 -- none in an idle state, and none where the clock is above 2^40 (10)
-abbrev pub times_next : Simulation → Next → List Time
-times_next s Next.None = []
-times_next s (Next.Part k) = cond (lt (power 40) s.head.clock.0.0) [] (part_times s (role_in s.network k))
+abbrev pub times_next : Simulation → Option ℕ → List Time
+times_next s None = []
+times_next s (Some k) = cond (lt (power 40) s.head.clock.0.0) [] (part_times s (role_in s.network k))
 
 -- none in an unfit state (9)
 unfoldable pub new_times : Simulation → List Time

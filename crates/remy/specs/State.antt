@@ -1,9 +1,7 @@
 -- The state of a simulation: its parts by number, what stands for an element that is not there, and one setter for each field. Definitions only.
-use Rattle.std.specs.Prelude.{ℕ, zero, suc, ◌+◌, ◌*◌, ◌-◌, ◌/◌, ◌%◌, Bool, true, false, ◌&&◌, cond, List, [], ◌∷◌, map, get_or, set, ltb, eqb}
+use Rattle.std.specs.Prelude.{ℕ, zero, suc, ◌+◌, ◌*◌, ◌-◌, ◌/◌, ◌%◌, Bool, true, false, ◌&&◌, cond, List, [], ◌∷◌, map, get_or, set, ltb, eqb, Option, Some, None}
 use Rattle.std.specs.Float.{nan}
 use Rattle.quantities.specs.declared.time.Time.{Time}
-use Rattle.quantities.specs.declared.time.OptionTime.{OptionTime}
-use Rattle.quantities.specs.declared.time.OptionTime.TheVariants.{None}
 use Rattle.quantities.specs.declared.information.Information.{Information}
 use Rattle.quantities.specs.Units.{span_of, time_of, amount_of}
 use Rattle.draws.specs.declared.generator.Rng.{Rng}
@@ -19,26 +17,24 @@ use Rattle.toggler.specs.declared.toggler.Toggler.{Toggler}
 use Rattle.toggler.specs.declared.tick_queue.Queued.{Queued}
 use Rattle.link.specs.Ring.{slot_of, items}
 use Rattle.toggler.specs.Queue.{no_queued}
-use Rattle.remy.specs.declared.network.ReturnLine.{ReturnLine}
-use Rattle.remy.specs.declared.network.ReturnLine.TheVariants as Back
 use Rattle.remy.specs.declared.network.RemyNetwork.{RemyNetwork}
 use Rattle.remy.specs.declared.simulation.Head.{Head}
 use Rattle.remy.specs.declared.simulation.Simulation.{Simulation}
 
 -- ---- lines: the first is line 0, and a return line (document 02, K4) is line 1
 
-abbrev pub has_back : ReturnLine → Bool
-has_back Back.None = false
-has_back (Back.Line v) = true
+abbrev pub has_back : Option LineValues → Bool
+has_back None = false
+has_back (Some v) = true
 
 -- how many lines a network has
 abbrev pub line_count : RemyNetwork → ℕ
 line_count n = cond (has_back n.back) 2 1
 
 -- the values of line l
-abbrev pub back_values : LineValues → ReturnLine → LineValues
-back_values first Back.None = first
-back_values first (Back.Line v) = v
+abbrev pub back_values : LineValues → Option LineValues → LineValues
+back_values first None = first
+back_values first (Some v) = v
 
 abbrev pub values_of : RemyNetwork → ℕ → LineValues
 values_of n zero = n.line
@@ -122,7 +118,7 @@ toggler_at s i = get_or s.togglers i no_toggler
 abbrev pub meter_at : Simulation → ℕ → AverageFlowMeter
 meter_at s i = get_or s.meters i no_meter
 
-abbrev pub queued_at : Simulation → ℕ → OptionTime
+abbrev pub queued_at : Simulation → ℕ → Option Time
 queued_at s k = (get_or s.queue k no_queued).time
 
 -- the first packet that waits for line l, and the first on it
@@ -284,5 +280,5 @@ with_toggler s i x = with_togglers s (set s.togglers i x)
 abbrev pub with_meter : Simulation → ℕ → AverageFlowMeter → Simulation
 with_meter s i x = with_meters s (set s.meters i x)
 
-abbrev pub with_queued : Simulation → ℕ → OptionTime → Simulation
+abbrev pub with_queued : Simulation → ℕ → Option Time → Simulation
 with_queued s k t = with_queue s (set s.queue k (record { time = t }))

@@ -1,6 +1,7 @@
 -- Document 01, "Tick and history" and the rows 9 to 13 of "Stops", and document 02, K4: the tick. Definitions only.
-use Rattle.std.specs.Prelude.{ℕ, zero, suc, Bool, true, false, cond, List, [], ◌∷◌, set, eqb}
+use Rattle.std.specs.Prelude.{ℕ, zero, suc, Bool, true, false, cond, List, [], ◌∷◌, set, eqb, Option, Some, None}
 use Rattle.std.specs.Float.Ieee.{lt}
+use Rattle.link.specs.declared.packet.Transit.{Transit}
 use Rattle.quantities.specs.Doubles.{zero_f, power}
 use Rattle.quantities.specs.Units.{span_of, time_of, rate_of, since}
 use Rattle.meters.specs.Meter.{switched_of, recorded_of}
@@ -9,8 +10,6 @@ use Rattle.link.specs.declared.packet.Waiting.{Waiting}
 use Rattle.link.specs.declared.link.Arrival.{Arrival}
 use Rattle.link.specs.declared.link.Left.{Left}
 use Rattle.link.specs.declared.link.Left.TheVariants as Left
-use Rattle.link.specs.declared.link.Begun.{Begun}
-use Rattle.link.specs.declared.link.Begun.TheVariants as Begun
 use Rattle.link.specs.declared.link.Delivered.{Delivered}
 use Rattle.link.specs.declared.link.Transmitted.{Transmitted}
 use Rattle.sender.specs.declared.lossy.Enabled.{Enabled}
@@ -26,13 +25,9 @@ use Rattle.link.specs.Ring.{slot_of, place_after}
 use Rattle.link.specs.Link.{receive_of, try_deliver, try_transmit}
 use Rattle.sender.specs.Sender.{timer_due, tick_timer, tick_send, enabled_of, disabled_of, returned_of}
 use Rattle.toggler.specs.Toggler.{toggle_of}
-use Rattle.remy.specs.declared.simulation.Next.{Next}
-use Rattle.remy.specs.declared.simulation.Next.TheVariants as Next
 use Rattle.remy.specs.declared.simulation.Simulation.{Simulation}
 use Rattle.remy.specs.declared.simulation.Mark.{Mark}
 use Rattle.remy.specs.declared.simulation.Mark.TheVariants as Mark
-use Rattle.remy.specs.declared.simulation.Name.{Name}
-use Rattle.remy.specs.declared.simulation.Name.TheVariants as Name
 use Rattle.remy.specs.declared.simulation.TickRecord.{TickRecord}
 use Rattle.remy.specs.declared.simulation.Ticked.{Ticked}
 use Rattle.remy.specs.declared.network.RemyNetwork.{RemyNetwork}
@@ -42,15 +37,15 @@ use Rattle.remy.specs.Fit.{fit}
 
 -- ---- records
 
-abbrev pub named : Packet → Name
-named p = Name.Packet p.sender p.seq
+abbrev pub named : Packet → Option (ℕ × ℕ)
+named p = Some (p.sender , p.seq)
 
 -- an empty record: time 0, part 0, no marks
 abbrev pub empty_record : TickRecord
-empty_record = record { time = time_of zero_f; part = 0; mark = Mark.None; packet = Name.None; started = Name.None }
+empty_record = record { time = time_of zero_f; part = 0; mark = Mark.None; packet = None; started = None }
 
 -- a record at the clock
-abbrev pub record_at : Simulation → Role → Mark → Name → Name → TickRecord
+abbrev pub record_at : Simulation → Role → Mark → Option (ℕ × ℕ) → Option (ℕ × ℕ) → TickRecord
 record_at s role mark packet started = record { time = s.head.clock; part = part_of s.network.senders role; mark = mark; packet = packet; started = started }
 
 abbrev pub marked : TickRecord → Mark → TickRecord
@@ -91,16 +86,16 @@ stopped s n = record { number = n; note = empty_record; simulation = s; messages
 -- Link: first the packet that leaves, then the packet that starts.
 
 -- the packet that started, put into a slot
-abbrev pub put_on_line : Simulation → ℕ → Begun → Simulation
-put_on_line s at Begun.Nobody = s
-put_on_line s at (Begun.Starts x) = with_on_line s (set s.on_line at x)
+abbrev pub put_on_line : Simulation → ℕ → Option Transit → Simulation
+put_on_line s at None = s
+put_on_line s at (Some x) = with_on_line s (set s.on_line at x)
 
-abbrev pub begun_name : Begun → Name
-begun_name Begun.Nobody = Name.None
-begun_name (Begun.Starts x) = named x.packet
+abbrev pub begun_name : Option Transit → Option (ℕ × ℕ)
+begun_name None = None
+begun_name (Some x) = named x.packet
 
-abbrev pub left_record : Simulation → ℕ → Left → Name → TickRecord
-left_record s l Left.Nobody started = record_at s (link l) Mark.None Name.None started
+abbrev pub left_record : Simulation → ℕ → Left → Option (ℕ × ℕ) → TickRecord
+left_record s l Left.Nobody started = record_at s (link l) Mark.None None started
 left_record s l (Left.Lost p) started = record_at s (link l) (lost_mark l) (named p) started
 left_record s l (Left.Out p) started = record_at s (link l) Mark.None (named p) started
 
@@ -140,7 +135,7 @@ abbrev pub timer_with : Simulation → ℕ → Enabled → Acted
 timer_with s i e =
     record {
       number = 0;
-      note = record_at s (sender i) Mark.Timer Name.None Name.None;
+      note = record_at s (sender i) Mark.Timer None None;
       simulation = with_sender s i (enabled_sender (sender_at s i) (sender_at s i).packets_sent e);
       messages = [];
     }
@@ -150,7 +145,7 @@ send_with s i t =
     cond (eqb t.number 0)
     (record {
       number = 0;
-      note = record_at s (sender i) Mark.None (named t.packet) Name.None;
+      note = record_at s (sender i) Mark.None (named t.packet) None;
       simulation = with_sender s i (enabled_sender (sender_at s i) t.packets_sent t.enabled);
       messages = arrives 0 t.packet ∷ [];
     })
@@ -174,7 +169,7 @@ toggler_with s i t =
     cond (eqb t.number 0)
     (record {
       number = 0;
-      note = record_at s (toggler i) Mark.None Name.None Name.None;
+      note = record_at s (toggler i) Mark.None None None;
       simulation = with_toggler s i t.toggler;
       messages = switches i t.toggler.enabled ∷ [];
     })
@@ -287,9 +282,9 @@ ticked s (stops n) = unmoved s n
 ticked s (moves r m) = record { number = 0; moved = true; note = r; simulation = m }
 
 -- Idle (no next component): number 0, "not moved". 10: clock above 2^40 s.
-abbrev pub tick_next : Simulation → Next → Ticked
-tick_next s Next.None = unmoved s 0
-tick_next s (Next.Part k) = cond (lt (power 40) s.head.clock.0.0) (unmoved s 10) (ticked s (outcome_of s (role_in s.network k)))
+abbrev pub tick_next : Simulation → Option ℕ → Ticked
+tick_next s None = unmoved s 0
+tick_next s (Some k) = cond (lt (power 40) s.head.clock.0.0) (unmoved s 10) (ticked s (outcome_of s (role_in s.network k)))
 
 -- A tick tests 9, then idle, then 10, then runs and stops at the first of 8, 11, 12 and 13 that it meets.
 unfoldable pub tick_of : Simulation → Ticked

@@ -7,7 +7,7 @@
 pub mod network;
 pub mod simulation;
 
-pub use network::{RemyNetwork, ReturnLine};
+pub use network::{RemyNetwork};
 pub use simulation::{
-    Built, Head, Mark, Name, Next, Noted, Ran, Recorded, Simulation, TickRecord, Ticked,
+    Built, Head, Mark, Noted, Ran, Recorded, Simulation, TickRecord, Ticked,
 };

@@ -16,7 +16,7 @@ pub enum ReturnLine {
 #[derive(Clone, Copy)]
 pub struct RemyNetwork {
     pub line: LineValues,
-    pub back: ReturnLine,
+    pub back: Option<LineValues>,
     pub bits: [u64; 16],
     pub senders: u32,
     pub on: ContinuousDistribution,

@@ -16,7 +16,7 @@ pub enum Next {
 #[derive(Clone, Copy)]
 pub struct Head {
     pub clock: Time,
-    pub next: Next,
+    pub next: Option<usize>,
 }
 
 // A simulation: its network, the clock and the next part, the two lines with the packets that wait
@@ -68,8 +68,8 @@ pub struct TickRecord {
     pub time: Time,
     pub part: usize,
     pub mark: Mark,
-    pub packet: Name,
-    pub started: Name,
+    pub packet: Option<(u32, u32)>,
+    pub started: Option<(u32, u32)>,
 }
 
 // What a build gives: a number of document 01, and the simulation, empty where it is refused.

@@ -1,14 +1,11 @@
 -- The network of a description (document 01, "The text program"): each double is the one that its bits stand for. Definitions only.
-use Rattle.std.specs.Prelude.{ℕ, Float}
+use Rattle.std.specs.Prelude.{ℕ, Float, Option, Some, None}
 use Rattle.std.specs.Float.{binary64}
 use Rattle.std.specs.Float.Ieee.{of_bits}
 use Rattle.draws.specs.declared.distribution.ContinuousDistribution.{ContinuousDistribution}
 use Rattle.draws.specs.declared.distribution.ContinuousDistribution.TheVariants as Distribution
-use Rattle.link.specs.declared.link.Limit.{Limit}
-use Rattle.link.specs.declared.link.Limit.TheVariants as Limit
 use Rattle.sender.specs.declared.lossy.Policy.{Policy}
 use Rattle.sender.specs.declared.lossy.Policy.TheVariants as Policy
-use Rattle.remy.specs.declared.network.ReturnLine.TheVariants as Back
 use Rattle.remy.specs.declared.network.RemyNetwork.{RemyNetwork}
 use Rattle.description.specs.declared.Description.{Description}
 use Rattle.description.specs.declared.Limit as L
@@ -22,9 +19,9 @@ use Rattle.description.specs.declared.Policy.TheVariants as GivenPolicy
 abbrev pub double_of : ℕ → Float
 double_of bits = of_bits binary64 bits
 
-abbrev pub limit_of : L.Limit → Limit
-limit_of GivenLimit.None = Limit.None
-limit_of (GivenLimit.Bits n) = Limit.Bits n
+abbrev pub limit_of : L.Limit → Option ℕ
+limit_of GivenLimit.None = None
+limit_of (GivenLimit.Bits n) = Some n
 
 abbrev pub distribution_of : D.Distribution → ContinuousDistribution
 distribution_of (GivenDistribution.Always v) = Distribution.Always (double_of v)
@@ -40,7 +37,7 @@ abbrev pub network_of : Description → RemyNetwork
 network_of d =
     record {
       line = record { delay = double_of d.delay; rate = double_of d.rate; loss = double_of d.loss; limit = limit_of d.limit };
-      back = Back.None;
+      back = None;
       bits = d.bits;
       senders = d.senders;
       on = distribution_of d.on;

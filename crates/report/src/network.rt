@@ -4,17 +4,17 @@ ghost use Rattle.report.specs.Network.{limit_of, distribution_of, policy_of, net
 
 use description::Description;
 use draws::ContinuousDistribution;
-use link::{Limit, LineValues};
+use link::{LineValues};
 use quantities::float::from_bits;
-use remy::{RemyNetwork, ReturnLine};
+use remy::{RemyNetwork};
 use sender::Policy;
 
 fn limit_of(limit: description::Limit) -> Limit
     ensures { result ≡ limit_of limit }
 {
     match limit {
-        description::Limit::None => Limit::None,
-        description::Limit::Bits(bits) => Limit::Bits(bits),
+        description::Limit::None => None,
+        description::Limit::Bits(bits) => Some(bits),
     }
 }
 
@@ -58,7 +58,7 @@ pub(crate) fn network_of(description: Description) -> RemyNetwork
     };
     RemyNetwork {
         line,
-        back: ReturnLine::None,
+        back: None,
         bits,
         senders: description.senders,
         on: distribution_of(on),

@@ -9,8 +9,8 @@ ghost use Rattle.lines.specs.Lines.{run_lines};
 ghost use Rattle.report.specs.Report.{left_of};
 
 use draws::ContinuousDistribution;
-use link::{Limit, LineValues};
-use remy::{RemyNetwork, ReturnLine};
+use link::{LineValues};
+use remy::{RemyNetwork};
 use report::{Report, Stage};
 use sender::Policy;
 use std::io;
@@ -30,7 +30,7 @@ fn network() -> RemyNetwork {
     bits[1] = 4;
     RemyNetwork {
         line: line(),
-        back: ReturnLine::Line(back()),
+        back: Some(back()),
         bits,
         senders: 2,
         on: ContinuousDistribution::Always(100.0),
@@ -45,7 +45,7 @@ fn line() -> LineValues {
         delay: 1.0,
         rate: 8.0,
         loss: 0.0,
-        limit: Limit::Bits(12),
+        limit: Some(12),
     }
 }
 
@@ -55,7 +55,7 @@ fn back() -> LineValues {
         delay: 2.0,
         rate: 4.0,
         loss: 0.5,
-        limit: Limit::Bits(8),
+        limit: Some(8),
     }
 }
 

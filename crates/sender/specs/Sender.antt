@@ -1,9 +1,7 @@
 -- Document 01, "Sender", and row 11 of "Stops". Definitions only.
-use Rattle.std.specs.Prelude.{ℕ, ◌+◌, ◌/◌, min, max, Bool, false, cond, leb, ltb, Float}
+use Rattle.std.specs.Prelude.{ℕ, ◌+◌, ◌/◌, min, max, Bool, false, cond, leb, ltb, Float, Option, Some, None}
 use Rattle.std.specs.Float.Ieee.{lt, eq}
 use Rattle.quantities.specs.declared.time.Time.{Time}
-use Rattle.quantities.specs.declared.time.OptionTime.{OptionTime}
-use Rattle.quantities.specs.declared.time.OptionTime.TheVariants.{None, Some}
 use Rattle.quantities.specs.Units.{span_of, span_after, earliest_opt_of}
 use Rattle.link.specs.declared.packet.Packet.{Packet}
 use Rattle.sender.specs.declared.lossy.Policy.{Policy}
@@ -41,7 +39,7 @@ abbrev pub timer_in : Time → Float → Time
 timer_in clock gap = span_after clock (span_of gap)
 
 -- timed: timer set to clock + gap at its first send, the one that finds no timer held
-unfoldable pub timer_sent : Policy → OptionTime → Time → OptionTime
+unfoldable pub timer_sent : Policy → Option Time → Time → Option Time
 timer_sent (Held w) timer clock = timer
 timer_sent (Grown first most) timer clock = timer
 timer_sent (Timed most gap) (Some t) clock = Some t
@@ -67,21 +65,21 @@ disabled_of s = with_state s State.WaitingForEnable
 abbrev pub may_send : ℕ → Enabled → Bool
 may_send sent e = ltb sent (e.greatest_ack + e.cwnd)
 
-abbrev pub next_send : ℕ → Enabled → Time → OptionTime
+abbrev pub next_send : ℕ → Enabled → Time → Option Time
 next_send sent e clock = cond (may_send sent e) (Some clock) None
 
 -- Its next time is the earlier of that and the timer.
-abbrev pub state_next : ℕ → SenderState → Time → OptionTime
+abbrev pub state_next : ℕ → SenderState → Time → Option Time
 state_next sent State.WaitingForEnable clock = None
 state_next sent (State.Enabled e) clock = earliest_opt_of (next_send sent e clock) e.timer
 
-unfoldable pub sender_next : LossySender → Time → OptionTime
+unfoldable pub sender_next : LossySender → Time → Option Time
 sender_next s clock = state_next s.packets_sent s.state clock
 
 -- ---- tick
 
 -- a timer equal to the clock
-abbrev pub due_at : OptionTime → Time → Bool
+abbrev pub due_at : Option Time → Time → Bool
 due_at None clock = false
 due_at (Some t) clock = eq t.0.0 clock.0.0
 
@@ -89,7 +87,7 @@ unfoldable pub timer_due : Enabled → Time → Bool
 timer_due e clock = due_at e.timer clock
 
 -- after a timer: another window and another timer
-abbrev pub timer_ticked : Enabled → ℕ → OptionTime → Enabled
+abbrev pub timer_ticked : Enabled → ℕ → Option Time → Enabled
 timer_ticked e window timer = record { started = e.started; greatest_ack = e.greatest_ack; cwnd = window; timer = timer }
 
 -- At each timer the window halves rounded down, at least 1, and the timer is clock + gap. A sender of another policy holds no timer in a fit state.

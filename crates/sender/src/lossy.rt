@@ -4,7 +4,7 @@ ghost use Rattle.sender.specs.Sender.{first_window, enabled_of, disabled_of, may
 use draws::Rng;
 use link::Packet;
 use quantities::time::earliest_opt;
-use quantities::{OptionTime, Time, TimeSpan};
+use quantities::{Time, TimeSpan};
 
 // How a window is chosen: held at a size; grown from first to most; or grown from 1 to most, and
 // halved by a timer at each gap.
@@ -21,7 +21,7 @@ pub struct Enabled {
     pub started: Time,
     pub greatest_ack: u32,
     pub cwnd: u32,
-    pub timer: OptionTime,
+    pub timer: Option<Time>,
 }
 
 #[derive(Clone, Copy)]
@@ -96,15 +96,15 @@ impl Policy {
 
     // The timer after a send: set by the first send since the sender was switched on. One that is held is
     // written anew, since a copy of the enum is slower.
-    pub(crate) fn timer_sent(self, timer: OptionTime, clock: Time) -> OptionTime
+    pub(crate) fn timer_sent(self, timer: Option<Time>, clock: Time) -> Option<Time>
         ensures { result ≡ timer_sent self timer clock }
     {
         match timer {
-            OptionTime::Some(t) => OptionTime::Some(t),
-            OptionTime::None => match self {
-                Policy::Held(_) => OptionTime::None,
-                Policy::Grown(_, _) => OptionTime::None,
-                Policy::Timed(_, gap) => OptionTime::Some(timer_in(clock, gap)),
+            Some(t) => Some(t),
+            None => match self {
+                Policy::Held(_) => None,
+                Policy::Grown(_, _) => None,
+                Policy::Timed(_, gap) => Some(timer_in(clock, gap)),
             },
         }
     }
@@ -146,8 +146,8 @@ impl Enabled {
     {
         let timer = self.timer;
         match timer {
-            OptionTime::None => false,
-            OptionTime::Some(t) => t.0.0 == clock.0.0,
+            None => false,
+            Some(t) => t.0.0 == clock.0.0,
         }
     }
 
@@ -162,13 +162,13 @@ impl Enabled {
                 started,
                 greatest_ack,
                 cwnd: self.cwnd,
-                timer: OptionTime::None,
+                timer: None,
             },
             Policy::Grown(_, _) => Enabled {
                 started,
                 greatest_ack,
                 cwnd: self.cwnd,
-                timer: OptionTime::None,
+                timer: None,
             },
             Policy::Timed(_, gap) => {
                 let at = timer_in(clock, gap);
@@ -176,7 +176,7 @@ impl Enabled {
                     started,
                     greatest_ack,
                     cwnd: halved(self.cwnd),
-                    timer: OptionTime::Some(at),
+                    timer: Some(at),
                 }
             }
         }
@@ -235,7 +235,7 @@ impl LossySender {
             started: time,
             greatest_ack: packets_sent,
             cwnd,
-            timer: OptionTime::None,
+            timer: None,
         };
         LossySender {
             packets_sent,
@@ -257,18 +257,18 @@ impl LossySender {
     }
 
     // The sender's own next time.
-    pub fn next_tick(self, clock: Time) -> OptionTime
+    pub fn next_tick(self, clock: Time) -> Option<Time>
         ensures { result ≡ sender_next self clock }
     {
         let state = self.state;
         match state {
-            SenderState::WaitingForEnable => OptionTime::None,
+            SenderState::WaitingForEnable => None,
             SenderState::Enabled(enabled) => {
                 let timer = enabled.timer;
                 if enabled.may_send(self.packets_sent) {
-                    return earliest_opt(OptionTime::Some(clock), timer);
+                    return earliest_opt(Some(clock), timer);
                 }
-                earliest_opt(OptionTime::None, timer)
+                earliest_opt(None, timer)
             }
         }
     }

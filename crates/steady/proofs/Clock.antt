@@ -1,5 +1,6 @@
 -- The clock can't go back: the new times of a tick are fine, what is held after it is old or new, and the clock after it is not below the clock before it, in every state
 -- that the types of code allow, fit or not. Every tick keeps what those types say, and every build gives it. Assumes nothing.
+use Rattle.std.proofs.Common.{Option, Some, None}
 use mathlib.Core.Path.{◌≡◌, refl, sym, subst}
 use mathlib.Core.Logic.{◌⊎◌, inl, inr}
 use mathlib.Core.Bool.{Bool, true, false, not, cond, true≢false}
@@ -9,8 +10,6 @@ use lib.Dec.{T}
 use lib.Ieee.{Float, binary64, lt, le, fits, is_nan}
 use lib.Ieee.Fits.{add-fits}
 use Rattle.quantities.specs.declared.time.Time.{Time}
-use Rattle.quantities.specs.declared.time.OptionTime.{OptionTime}
-use Rattle.quantities.specs.declared.time.OptionTime.TheVariants.{None, Some}
 use Rattle.quantities.specs.Doubles.{power, largest}
 use Rattle.quantities.specs.Units.{span_of, time_of, span_after}
 use Rattle.quantities.specs.NewTime.{FineTime, Double}
@@ -19,7 +18,6 @@ use Rattle.sender.specs.declared.lossy.SenderState.{SenderState}
 use Rattle.sender.specs.declared.lossy.SenderState.TheVariants as State
 use Rattle.sender.specs.declared.lossy.Policy.{Policy}
 use Rattle.remy.specs.declared.network.RemyNetwork.{RemyNetwork}
-use Rattle.remy.specs.declared.simulation.Next.TheVariants as Next
 use Rattle.remy.specs.declared.simulation.Simulation.{Simulation}
 use Rattle.remy.specs.declared.simulation.TickRecord.{TickRecord}
 use Rattle.remy.specs.declared.simulation.Ticked.{Ticked}
@@ -65,11 +63,11 @@ tick_typed = tick_has doubles doubles_closed new_doubles
 
 -- ---- what is held is old or new
 
-any_self : (P : Time → Type 0) (o : OptionTime) → IfAny (λ t. (o ≡ Some t) ⊎ P t) o
+any_self : (P : Time → Type 0) (o : Option Time) → IfAny (λ t. (o ≡ Some t) ⊎ P t) o
 any_self P None = tt
 any_self P (Some t) = inl refl
 
-any_unit : (o : OptionTime) → IfAny (λ t. Unit {0}) o
+any_unit : (o : Option Time) → IfAny (λ t. Unit {0}) o
 any_unit None = tt
 any_unit (Some t) = tt
 
@@ -107,7 +105,7 @@ state_from : (policy : Policy) (clock : Time) (x : SenderState) → StateOk poli
 state_from policy clock State.WaitingForEnable ok = tt
 state_from policy clock (State.Enabled e) ok = any_map (TimerOk policy clock) (NotAfter clock) (λ t k. k.ahead) e.timer ok.timer
 
-module _ (s : Simulation) (y : Typed s) (f : FitState s) (early : lt (power 40) s.head.clock.0.0 ≡ false) (j : ℕ) (next : s.head.next ≡ Next.Part j) where
+module _ (s : Simulation) (y : Typed s) (f : FitState s) (early : lt (power 40) s.head.clock.0.0 ≡ false) (j : ℕ) (next : s.head.next ≡ Some j) where
   known : T (not (is_nan s.head.clock.0.0))
   known = held_known s.head.clock (clock-held s j f y.full next)
 

@@ -1,4 +1,5 @@
 -- From the facts by parts to the test: a state between ticks is steady. Assumes nothing.
+use Rattle.std.proofs.Common.{Option, Some, None}
 use mathlib.Core.Path.{◌≡◌, refl, sym, ap, subst}
 use mathlib.Core.Bool.{Bool, true, false, not, ◌&&◌, ◌||◌, beq}
 use Prim.Native.Nat.{ℕ, ◌+◌, ◌*◌, ◌<◌}
@@ -8,8 +9,6 @@ use lib.Dec.{leb, ltb, eqb}
 use lib.Ieee.{le}
 use lib.Ieee.Bits.{is_true}
 use Rattle.quantities.specs.declared.time.Time.{Time}
-use Rattle.quantities.specs.declared.time.OptionTime.{OptionTime}
-use Rattle.quantities.specs.declared.time.OptionTime.TheVariants.{None, Some}
 use Rattle.quantities.specs.Doubles.{zero_f, power}
 use Rattle.quantities.proofs.Order.{le_trans}
 use Rattle.meters.specs.Meter.{is_on, total_fit, sum_fit}
@@ -21,7 +20,6 @@ use Rattle.sender.specs.declared.lossy.SenderState.{SenderState}
 use Rattle.sender.specs.declared.lossy.SenderState.TheVariants as State
 use Rattle.link.specs.Ring.{places}
 use Rattle.toggler.specs.Queue.{queue_places}
-use Rattle.remy.specs.declared.simulation.Next.{Next}
 use Rattle.remy.specs.declared.simulation.Simulation.{Simulation}
 use Rattle.remy.specs.Network.{up_to, between, network_stop}
 use Rattle.remy.specs.State.{line_count, line_at, sender_at, toggler_at, meter_at, queued_at, waiting_items, waiting_packets, on_line_items, on_line_packets, sender_bits, packet_bits, total_bits}
@@ -98,19 +96,19 @@ module _ (s : Simulation) (b : Body s) where
   past_held : (t : Time) → Past s.head.clock t → held t ≡ true
   past_held t o = is_true (held t) (le_trans t.0.0 s.head.clock.0.0 (power 41) o.high b.held)
 
-  start-held : (o : OptionTime) → PastIfAny s.head.clock o → held_if_any o ≡ true
+  start-held : (o : Option Time) → PastIfAny s.head.clock o → held_if_any o ≡ true
   start-held None p = refl
   start-held (Some t) p = past_held t p
 
-  start-since : (o : OptionTime) → PastIfAny s.head.clock o → meter_start_fit s o ≡ true
+  start-since : (o : Option Time) → PastIfAny s.head.clock o → meter_start_fit s o ≡ true
   start-since None p = refl
   start-since (Some t) p = since t p
 
-  timer_held : (policy : Policy) (o : OptionTime) → TimerIfAny policy s.head.clock o → held_if_any o ≡ true
+  timer_held : (policy : Policy) (o : Option Time) → TimerIfAny policy s.head.clock o → held_if_any o ≡ true
   timer_held policy None p = refl
   timer_held policy (Some t) p = is_true (held t) p.held
 
-  timer_timed : (policy : Policy) (o : OptionTime) → TimerIfAny policy s.head.clock o → (not (is_on o) || is_timed policy) ≡ true
+  timer_timed : (policy : Policy) (o : Option Time) → TimerIfAny policy s.head.clock o → (not (is_on o) || is_timed policy) ≡ true
   timer_timed policy None p = refl
   timer_timed policy (Some t) p = p.timed
 
@@ -253,9 +251,9 @@ module _ (s : Simulation) (j : ℕ) (w : Between j s) where
   queue-fit =
       let own : ℕ → Bool = λ k. same_time (queued_at s k) (next_time_of s k) in
       both_i (next_fit s s.head.next) (up_to queue_places (λ k. is_next s.head.next k || own k))
-      (subst (λ (n : Next). next_fit s n ≡ true) (sym w.next) w.own)
+      (subst (λ (n : Option ℕ). next_fit s n ≡ true) (sym w.next) w.own)
       (up_to_intro queue_places (λ k. is_next s.head.next k || own k)
-      (λ k h. subst (λ (n : Next). (is_next n k || own k) ≡ true) (sym w.next)
+      (λ k h. subst (λ (n : Option ℕ). (is_next n k || own k) ≡ true) (sym w.next)
       (or_else (eqb j k) (own k) (λ e. (w.queue k h (λ same. eqb-false j k e (sym same))).own))))
 
   queued_held : (k : ℕ) → k < queue_places → held_queued s (queued_at s k) ≡ true

@@ -1,4 +1,5 @@
 -- A steady state by the parts of the state that each fact reads: a line with its packets, a sender with its toggler and meter, a place of the queue. Assumes nothing.
+use Rattle.std.proofs.Common.{Option, Some}
 use mathlib.Core.Path.{◌≡◌}
 use mathlib.Core.Bool.{true, false}
 use mathlib.Core.List.{List}
@@ -6,8 +7,6 @@ use Prim.Native.Nat.{ℕ, ◌+◌, ◌*◌, ◌≤◌, ◌<◌}
 use lib.Dec.{T}
 use lib.Ieee.{le}
 use Rattle.quantities.specs.declared.time.Time.{Time}
-use Rattle.quantities.specs.declared.time.OptionTime.{OptionTime}
-use Rattle.quantities.specs.declared.time.OptionTime.TheVariants.{Some}
 use Rattle.quantities.specs.Doubles.{zero_f, power}
 use Rattle.quantities.specs.Units.{span_of, span_after}
 use Rattle.draws.specs.declared.generator.Rng.{Rng}
@@ -28,7 +27,6 @@ use Rattle.link.specs.Ring.{items}
 use Rattle.toggler.specs.Queue.{queue_places}
 use Rattle.link.proofs.Items.{Sound}
 use Rattle.remy.specs.declared.network.RemyNetwork.{RemyNetwork}
-use Rattle.remy.specs.declared.simulation.Next.TheVariants as Next
 use Rattle.remy.specs.declared.simulation.Simulation.{Simulation}
 use Rattle.remy.specs.Network.{window_fit, network_stop}
 use Rattle.remy.specs.State.{line_count, values_of, no_waiting, no_transit, line_at, sender_at, toggler_at, meter_at, queued_at, sender_bits, packet_bits, total_bits}
@@ -50,7 +48,7 @@ pub record Past (clock t : Time) : Type 0 where
   pub low : T (le zero_f t.0.0)
   pub high : NotAfter t clock
 
-abbrev pub PastIfAny : Time → OptionTime → Type 0
+abbrev pub PastIfAny : Time → Option Time → Type 0
 PastIfAny clock x = IfAny (Past clock) x
 
 -- words that are not all zero
@@ -97,7 +95,7 @@ pub record TimerOk (policy : Policy) (clock t : Time) : Type 0 where
   pub held : Held t
   pub ahead : NotAfter clock t
 
-abbrev pub TimerIfAny : Policy → Time → OptionTime → Type 0
+abbrev pub TimerIfAny : Policy → Time → Option Time → Type 0
 TimerIfAny policy clock x = IfAny (TimerOk policy clock) x
 
 pub record EnabledOk (policy : Policy) (clock : Time) (e : Enabled) : Type 0 where
@@ -177,7 +175,7 @@ QueueOk s = (k : ℕ) → k < queue_places → PlaceOk s k
 -- between ticks, where part j is next: its own next time is the clock, and what is queued at its own place is held and not below the clock
 pub record Between (j : ℕ) (s : Simulation) : Type 0 where
   pub body : Body s
-  pub next : s.head.next ≡ Next.Part j
+  pub next : s.head.next ≡ Some j
   pub own : same_time (Some s.head.clock) (next_time_of s j) ≡ true
   pub place : j < queue_places → held_queued s (queued_at s j) ≡ true
   pub queue : QueueBut j s

@@ -1,4 +1,5 @@
 -- What a meter keeps through a record and through a switch. Assumes nothing.
+use Rattle.std.proofs.Common.{Option, Some, None}
 use mathlib.Core.Path.{◌≡◌, refl, sym, ap, subst}
 use mathlib.Core.Bool.{Bool, true, false, not, ◌&&◌, beq}
 use Prim.Native.Nat.{ℕ, suc, ◌+◌, ◌^◌, ◌≤◌, ◌<◌}
@@ -8,8 +9,6 @@ use borrow.Author.Tests.{eqb-true, ltb-true}
 use lib.Dec.{leb, ltb, eqb}
 use lib.Ieee.{Float, binary64, add, mul, of_int, le}
 use Rattle.quantities.specs.declared.time.Time.{Time}
-use Rattle.quantities.specs.declared.time.OptionTime.{OptionTime}
-use Rattle.quantities.specs.declared.time.OptionTime.TheVariants.{None, Some}
 use Rattle.quantities.specs.declared.time_span.TimeSpan.{TimeSpan}
 use Rattle.quantities.specs.Doubles.{zero_f, power, in_range}
 use Rattle.quantities.specs.Units.{amount_of}
@@ -70,12 +69,12 @@ recorded_ok size clock m rtt k =
 -- ---- a switch
 
 -- on from the clock, or off with the time since its start in its total
-turned_ok : (size : ℕ) (clock : Time) (m : AverageFlowMeter) (o : OptionTime) → m.current_start ≡ o → Early clock → MeterOk size clock m → MeterOk size clock (turned m o clock)
+turned_ok : (size : ℕ) (clock : Time) (m : AverageFlowMeter) (o : Option Time) → m.current_start ≡ o → Early clock → MeterOk size clock m → MeterOk size clock (turned m o clock)
 turned_ok size clock m None e c k = record { start = now_past clock c; total = k.total; sum = k.sum; bits = k.bits }
 turned_ok size clock m (Some t) e c k =
     record { start = tt; total = total_grows m.total_time clock t k.total c (subst (PastIfAny clock) e k.start); sum = k.sum; bits = k.bits }
 
-turned_on : (m : AverageFlowMeter) (o : OptionTime) (t : Time) → is_on (turned m o t).current_start ≡ not (is_on o)
+turned_on : (m : AverageFlowMeter) (o : Option Time) (t : Time) → is_on (turned m o t).current_start ≡ not (is_on o)
 turned_on m None t = refl
 turned_on m (Some u) t = refl
 
@@ -85,7 +84,7 @@ pub record Switched (size : ℕ) (clock : Time) (m m' : AverageFlowMeter) : Type
   pub kept : MeterOk size clock m'
 
 -- a start that is past is in range
-start-past : (clock : Time) (o : OptionTime) → PastIfAny clock o → (t : Time) → o ≡ Some t → in_range zero_f clock.0.0 t.0.0 ≡ true
+start-past : (clock : Time) (o : Option Time) → PastIfAny clock o → (t : Time) → o ≡ Some t → in_range zero_f clock.0.0 t.0.0 ≡ true
 start-past clock o k t e = let p : Past clock t = subst (PastIfAny clock) e k in range_i zero_f clock.0.0 t.0.0 p.low p.high
 
 other-state : (on : Bool) → not (beq (not on) on) ≡ true

@@ -1,4 +1,5 @@
 -- From the test to the facts by parts: a steady state in which a part is next is between ticks. Assumes nothing.
+use Rattle.std.proofs.Common.{Option, Some, None}
 use mathlib.Core.Path.{◌≡◌, refl, sym, ap, subst, ◌∙◌}
 use mathlib.Core.Bool.{Bool, true, false, not, ◌&&◌, ◌||◌, beq, false≢true, cond}
 use mathlib.Core.List.{List, [], ◌∷◌}
@@ -9,8 +10,6 @@ use borrow.Author.Tests.{ne_eqb, leb-true, ltb-true, eqb-true, not-true}
 use lib.Dec.{leb, ltb, eqb}
 use lib.Ieee.{le, eq}
 use Rattle.quantities.specs.declared.time.Time.{Time}
-use Rattle.quantities.specs.declared.time.OptionTime.{OptionTime}
-use Rattle.quantities.specs.declared.time.OptionTime.TheVariants.{None, Some}
 use Rattle.quantities.specs.Doubles.{zero_f, largest}
 use Rattle.quantities.specs.Units.{latest_of, earliest_opt_of}
 use Rattle.quantities.proofs.Order.{le_trans}
@@ -26,8 +25,6 @@ use Rattle.toggler.specs.Queue.{queue_places}
 use Rattle.link.specs.Link.{next_transmit, next_deliver, next_tick}
 use Rattle.sender.specs.Sender.{may_send, next_send, state_next, sender_next}
 use Rattle.link.proofs.Items.{items-empty, items_pop}
-use Rattle.remy.specs.declared.simulation.Next.{Next}
-use Rattle.remy.specs.declared.simulation.Next.TheVariants as Next
 use Rattle.remy.specs.declared.simulation.Simulation.{Simulation}
 use Rattle.remy.specs.Network.{up_to, between, network_stop}
 use Rattle.remy.specs.State.{line_count, Role, link, sender, toggler, no_transit, line_at, sender_at, toggler_at, meter_at, queued_at, front_of, waiting_items, waiting_packets, on_line_items, on_line_packets, sender_bits, total_bits}
@@ -78,7 +75,7 @@ ahead-rising clock x (y ∷ ys) e a =
 
 -- ---- a fit state in which part j is next
 
-module _ (s : Simulation) (j : ℕ) (fits : FitState s) (full : Full s) (next : s.head.next ≡ Next.Part j) where
+module _ (s : Simulation) (j : ℕ) (fits : FitState s) (full : Full s) (next : s.head.next ≡ Some j) where
   helds : HeldTimes s
   helds = held-times s fits.held
 
@@ -98,7 +95,7 @@ module _ (s : Simulation) (j : ℕ) (fits : FitState s) (full : Full s) (next : 
   pub clock-held : Held s.head.clock
   clock-held =
       holds (held s.head.clock)
-      (or_first (held s.head.clock) (is_idle s.head.next && eq s.head.clock.0.0 largest) (ap (λ (n : Next). is_idle n && eq s.head.clock.0.0 largest) next) helds.clock)
+      (or_first (held s.head.clock) (is_idle s.head.next && eq s.head.clock.0.0 largest) (ap (λ (n : Option ℕ). is_idle n && eq s.head.clock.0.0 largest) next) helds.clock)
 
   -- ---- the queue
 
@@ -108,7 +105,7 @@ module _ (s : Simulation) (j : ℕ) (fits : FitState s) (full : Full s) (next : 
   own-next : same_time (Some s.head.clock) (next_time_of s j) ≡ true
   unfolding queue_fit
   own-next =
-      subst (λ (n : Next). next_fit s n ≡ true) next
+      subst (λ (n : Option ℕ). next_fit s n ≡ true) next
       (both_l (next_fit s s.head.next) (up_to queue_places (λ k. is_next s.head.next k || same_time (queued_at s k) (next_time_of s k))) fits.queue)
 
   others : QueueBut j s
@@ -117,7 +114,7 @@ module _ (s : Simulation) (j : ℕ) (fits : FitState s) (full : Full s) (next : 
       let own : ℕ → Bool = λ i. same_time (queued_at s i) (next_time_of s i) in
       record {
         own =
-            or_rest (is_next s.head.next k) (own k) (ap (λ (n : Next). is_next n k) next ∙ ne_eqb j k (λ same. other (sym same)))
+            or_rest (is_next s.head.next k) (own k) (ap (λ (n : Option ℕ). is_next n k) next ∙ ne_eqb j k (λ same. other (sym same)))
             (up_to-at queue_places (λ i. is_next s.head.next i || own i)
             (both_r (next_fit s s.head.next) (up_to queue_places (λ i. is_next s.head.next i || own i)) fits.queue)
             k h);
@@ -205,12 +202,12 @@ module _ (s : Simulation) (j : ℕ) (fits : FitState s) (full : Full s) (next : 
 
   -- ---- a sender with its toggler and meter
 
-  start_of : (o : OptionTime) → meter_start_fit s o ≡ true → PastIfAny s.head.clock o
+  start_of : (o : Option Time) → meter_start_fit s o ≡ true → PastIfAny s.head.clock o
   start_of None e = tt
   start_of (Some t) e = past_of t e
 
   -- a timer that is the second of two times, the earlier of which is from the clock on
-  timer_of_lem : (policy : Policy) (x o : OptionTime) → HeldIfAny x → held_if_any o ≡ true → (not (is_on o) || is_timed policy) ≡ true → FromIfAny s.head.clock (earliest_opt_of x o)
+  timer_of_lem : (policy : Policy) (x o : Option Time) → HeldIfAny x → held_if_any o ≡ true → (not (is_on o) || is_timed policy) ≡ true → FromIfAny s.head.clock (earliest_opt_of x o)
       → TimerIfAny policy s.head.clock o
   timer_of_lem policy x None p h e a = tt
   timer_of_lem policy x (Some t) p h e a = record { timed = e; held = holds (held t) h; ahead = from_right s.head.clock x (Some t) p (holds (held t) h) a }
@@ -343,6 +340,6 @@ module _ (s : Simulation) (j : ℕ) (fits : FitState s) (full : Full s) (next : 
     between-ticks : Between j s
     between-ticks = record { body = body; next = next; own = own-next; place = queued_held j; queue = others }
 
-pub opened : (s : Simulation) (j : ℕ) → steady s ≡ true → Full s → s.head.next ≡ Next.Part j → Between j s
+pub opened : (s : Simulation) (j : ℕ) → steady s ≡ true → Full s → s.head.next ≡ Some j → Between j s
 unfolding steady
 opened s j e full next = between-ticks s j (fit-state s (both_l (fit s) (soon_fit s) e)) full next (both_r (fit s) (soon_fit s) e)

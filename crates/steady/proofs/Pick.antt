@@ -1,4 +1,5 @@
 -- The pick: where there is a sender, the least queued time becomes the clock, and then every part's own next time is what it was. Assumes nothing.
+use Rattle.std.proofs.Common.{Option, Some, None}
 use mathlib.Core.Path.{◌≡◌, refl, sym, ap, ap₂, subst, ◌∙◌}
 use mathlib.Core.Bool.{Bool, true, false, cond, false≢true}
 use mathlib.Core.List.{List, [], ◌∷◌}
@@ -11,8 +12,6 @@ use lib.Seq.{get_or-set_other}
 use lib.Ieee.{binary64, le, eq}
 use lib.Ieee.Bits.{is_true}
 use Rattle.quantities.specs.declared.time.Time.{Time}
-use Rattle.quantities.specs.declared.time.OptionTime.{OptionTime}
-use Rattle.quantities.specs.declared.time.OptionTime.TheVariants.{None, Some}
 use Rattle.quantities.specs.Doubles.{zero_f, power}
 use Rattle.quantities.specs.Units.{span_of, latest_of, earliest_opt_of, span_after}
 use Rattle.quantities.proofs.Order.{le_known_l, le_known_r, le_trans, le_antisym, later-left, later_right, later-least}
@@ -33,7 +32,6 @@ use Rattle.toggler.specs.Queue.{queue_places, no_queued, pick_of}
 use Rattle.link.proofs.Items.{items-empty, items_pop}
 use Rattle.toggler.proofs.Least.{picked-nothing, picked-there, picked-inside, picked-le}
 use Rattle.remy.specs.declared.network.RemyNetwork.{RemyNetwork}
-use Rattle.remy.specs.declared.simulation.Next.TheVariants as Next
 use Rattle.remy.specs.declared.simulation.Simulation.{Simulation}
 use Rattle.remy.specs.State.{line_count, values_of, Role, link, bouncer, sender, toggler, nobody, role_in, no_waiting, no_transit, line_at, sender_at, toggler_at, meter_at, first_of, front_of, queued_at, waiting_items, on_line_items, sender_bits, with_head, with_queue}
 use Rattle.remy.specs.Queue.{own_time, next_time_of, part_of, head_of, removed, picked}
@@ -91,7 +89,7 @@ module _ (c t : Time) (later : NotAfter c t) where
   past_later : (u : Time) → Past c u → Past t u
   past_later u p = record { low = p.low; high = le_trans u.0.0 c.0.0 t.0.0 p.high later }
 
-  any_later : (u : OptionTime) → PastIfAny c u → PastIfAny t u
+  any_later : (u : Option Time) → PastIfAny c u → PastIfAny t u
   any_later None p = tt
   any_later (Some u) p = past_later u p
 
@@ -102,7 +100,7 @@ module _ (c t : Time) (later : NotAfter c t) where
   meter-later size m ok = record { start = any_later m.current_start ok.start; total = ok.total; sum = ok.sum; bits = ok.bits }
 
   -- ---- what is due at t or later stays ahead
-  timer_later : (policy : Policy) (timer : OptionTime) → FromIfAny t timer → TimerIfAny policy c timer → TimerIfAny policy t timer
+  timer_later : (policy : Policy) (timer : Option Time) → FromIfAny t timer → TimerIfAny policy c timer → TimerIfAny policy t timer
   timer_later policy None f ok = tt
   timer_later policy (Some u) f ok = record { timed = ok.timed; held = ok.held; ahead = f }
 
@@ -147,7 +145,7 @@ module _ (c t : Time) (later : NotAfter c t) where
 -- ---- the state with its clock at t, where no part is due before t, and part j is next and not queued
 
 abbrev moved : Simulation → ℕ → Time → Simulation
-moved s j t = with_head (with_queue s (set s.queue j no_queued)) (record { clock = t; next = Next.Part j })
+moved s j t = with_head (with_queue s (set s.queue j no_queued)) (record { clock = t; next = Some j })
 
 module _ (s : Simulation) (b : Body s) (t : Time) (ahead : Ahead s.head.clock (Some t)) (j : ℕ)
     (least : (role : Role) → Real s.network role → FromIfAny t (own_time s role)) where
@@ -198,7 +196,7 @@ module _ (s : Simulation) (b : Body s) (t : Time) (ahead : Ahead s.head.clock (S
       let c = s.head.clock in
       let waiting = WaitsOk net (sent_of s) in
       record {
-        full = full_queue s (record { clock = t; next = Next.Part j }) (set s.queue j no_queued) (length-set s.queue j no_queued ∙ b.full.queue) b.full;
+        full = full_queue s (record { clock = t; next = Some j }) (set s.queue j no_queued) (length-set s.queue j no_queued ∙ b.full.queue) b.full;
         network = b.network;
         clock = from_zero;
         held = ahead.held;
@@ -257,7 +255,7 @@ module _ (s : Simulation) (b : Body s) (q : QueueOk s) where
     queued_from : (k : ℕ) → k < queue_places → FromIfAny t (queued_at s k)
     queued_from k h = by (queued_at s k) refl (queued k h)
       where
-        by : (x : OptionTime) → queued_at s k ≡ x → Ahead s.head.clock x → FromIfAny t x
+        by : (x : Option Time) → queued_at s k ≡ x → Ahead s.head.clock x → FromIfAny t x
         by None i a = tt
         by (Some u) i a = picked-le s.queue e k i (held_known u a.held) (held_known t picked-ahead.held)
 
@@ -291,13 +289,13 @@ module _ (s : Simulation) (b : Body s) (q : QueueOk s) where
           body = moved-body s b t picked-ahead j own_from;
           next = refl;
           own =
-              same_trans (Some t) (next_time_of s j) (next_time_of s' j) (subst (λ (x : OptionTime). same_time x (next_time_of s j) ≡ true) there (q j inside).own) (next-same j);
+              same_trans (Some t) (next_time_of s j) (next_time_of s' j) (subst (λ (x : Option Time). same_time x (next_time_of s j) ≡ true) there (q j inside).own) (next-same j);
           place = left_ahead j;
           queue = λ k h other.
               let same : queued_at s' k ≡ queued_at s k = ap (λ (x : Queued). x.time) (get_or-set_other s.queue j k no_queued no_queued other) in
               record {
                 own =
-                    ap (λ (x : OptionTime). same_time x (next_time_of s' k)) same
+                    ap (λ (x : Option Time). same_time x (next_time_of s' k)) same
                     ∙ same_trans (queued_at s k) (next_time_of s k) (next_time_of s' k) (q k h).own (next-same k);
                 ahead = left_ahead k h;
               };
@@ -351,6 +349,6 @@ picked-between s b q some = by p.time refl
     p : Picked
     p = pick_of s.queue
 
-    by : (x : OptionTime) → p.time ≡ x → Between p.part (with_head (with_queue s (removed s.queue p x)) (head_of p x))
+    by : (x : Option Time) → p.time ≡ x → Between p.part (with_head (with_queue s (removed s.queue p x)) (head_of p x))
     by None e = absurd (some_queued s b q some e)
     by (Some t) e = moved-between s b q t e

@@ -1,4 +1,5 @@
 -- The queue under the stores of a tick: a store that one part alone reads leaves the other places right, and the requeue puts that part's place right. Assumes nothing.
+use Rattle.std.proofs.Common.{Option, Some, None, Ok}
 use mathlib.Core.Path.{◌≡◌, refl, ap, ap₂, subst, ◌∙◌}
 use mathlib.Core.Bool.{◌&&◌}
 use mathlib.Core.List.{List}
@@ -11,8 +12,6 @@ use lib.ListN.{length, get_or, set, length-set}
 use lib.Seq.{get_or-set_same, get_or-set_other}
 use lib.Ieee.{le}
 use Rattle.quantities.specs.declared.time.Time.{Time}
-use Rattle.quantities.specs.declared.time.OptionTime.{OptionTime}
-use Rattle.quantities.specs.declared.time.OptionTime.TheVariants.{None, Some}
 use Rattle.quantities.specs.Units.{latest_of}
 use Rattle.meters.specs.declared.meter.AverageFlowMeter.{AverageFlowMeter}
 use Rattle.link.specs.declared.packet.Waiting.{Waiting}
@@ -45,7 +44,7 @@ use Rattle.steady.proofs.Ahead.{Ahead, ahead-queued, same_self, ahead_now, ahead
 
 -- ---- stores
 
-held_same : (s s' : Simulation) (x : OptionTime) → s'.head.clock ≡ s.head.clock → held_queued s' x ≡ held_queued s x
+held_same : (s s' : Simulation) (x : Option Time) → s'.head.clock ≡ s.head.clock → held_queued s' x ≡ held_queued s x
 held_same s s' None c = refl
 held_same s s' (Some t) c = ap (λ (u : Time). held t && le u.0.0 t.0.0) c
 
@@ -153,7 +152,7 @@ module _ (s : Simulation) (b : Body s) (l : ℕ) (h : l < line_count s.network) 
       let ok = front_ok (omega arith) in
       record { held = ok.held; from = ok.ahead })
 
-pub timer_ahead : (policy : Policy) (clock : Time) (timer : OptionTime) → TimerIfAny policy clock timer → Ahead clock timer
+pub timer_ahead : (policy : Policy) (clock : Time) (timer : Option Time) → TimerIfAny policy clock timer → Ahead clock timer
 timer_ahead policy clock None ok = record { held = tt; from = tt }
 timer_ahead policy clock (Some t) ok = record { held = ok.held; from = ok.ahead }
 
@@ -207,7 +206,7 @@ pub requeued : (s : Simulation) (role : Role) → Body s → Real s.network role
 requeued s role b r = requeued_ahead s role b.full.queue (own-ahead s role b r) r
 
 -- nothing but the queue itself reads the queue
-queued_body : (s : Simulation) (k : ℕ) (x : OptionTime) → Body s → Body (with_queued s k x)
+queued_body : (s : Simulation) (k : ℕ) (x : Option Time) → Body s → Body (with_queued s k x)
 queued_body s k x b =
     let queue = set s.queue k (record { time = x }) in
     record {

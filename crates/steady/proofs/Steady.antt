@@ -1,4 +1,5 @@
 -- Every tick keeps a steady state, every build gives one, and so every state that is reached from a build is fit: stop 9 is never met there. Assumes nothing.
+use Rattle.std.proofs.Common.{Option, Some, None}
 use mathlib.Core.Path.{◌≡◌, refl, ap, subst}
 use mathlib.Core.Bool.{true}
 use mathlib.Core.List.{List, [], ◌∷◌}
@@ -6,8 +7,6 @@ use Prim.Native.Nat.{ℕ}
 use lib.Ieee.{lt}
 use Rattle.quantities.specs.Doubles.{power}
 use Rattle.remy.specs.declared.network.RemyNetwork.{RemyNetwork}
-use Rattle.remy.specs.declared.simulation.Next.{Next}
-use Rattle.remy.specs.declared.simulation.Next.TheVariants as Next
 use Rattle.remy.specs.declared.simulation.Simulation.{Simulation}
 use Rattle.remy.specs.declared.simulation.Built.{Built}
 use Rattle.remy.specs.declared.simulation.Ticked.{Ticked}
@@ -49,9 +48,9 @@ unfolding tick_of
 tick_test s k =
     cond_elim (λ (t : Ticked). steady t.simulation ≡ true) (fit s) (tick_next s s.head.next) (unmoved s 9) (λ e. with_next_lem s.head.next refl) (λ e. k.test)
   where
-    with_next_lem : (x : Next) → s.head.next ≡ x → steady (tick_next s x).simulation ≡ true
-    with_next_lem Next.None e = k.test
-    with_next_lem (Next.Part j) e =
+    with_next_lem : (x : Option ℕ) → s.head.next ≡ x → steady (tick_next s x).simulation ≡ true
+    with_next_lem None e = k.test
+    with_next_lem (Some j) e =
         cond_elim (λ (t : Ticked). steady t.simulation ≡ true) (lt (power 40) s.head.clock.0.0) (unmoved s 10) (ticked s (outcome_of s (role_in s.network j)))
         (λ late. k.test)
         (λ early. on-outcome s k.test (outcome_of s (role_in s.network j))

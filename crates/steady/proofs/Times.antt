@@ -1,4 +1,5 @@
 -- Times at an early clock: new times, timers, and spans since a past time. Assumes nothing.
+use Rattle.std.proofs.Common.{Option, Some, None}
 use mathlib.Core.Path.{◌≡◌, refl}
 use mathlib.Core.Bool.{true}
 use Prim.Native.Nat.{ℕ, ◌-◌, ◌*◌, ◌≤◌}
@@ -9,8 +10,6 @@ use lib.Ieee.{Float, Format, binary64, add, sub, le, fits}
 use lib.Ieee.Scale.{finite}
 use lib.Ieee.Positive.{num, den}
 use Rattle.quantities.specs.declared.time.Time.{Time}
-use Rattle.quantities.specs.declared.time.OptionTime.{OptionTime}
-use Rattle.quantities.specs.declared.time.OptionTime.TheVariants.{None, Some}
 use Rattle.quantities.specs.declared.time_span.TimeSpan.{TimeSpan}
 use Rattle.quantities.specs.Doubles.{zero_f, power, largest}
 use Rattle.quantities.specs.Units.{span_of, since, span_sum, span_after}
@@ -51,7 +50,7 @@ pub timer_in_ok : (most : ℕ) (gap : Float) (clock : Time) → policy_fit (Poli
 timer_in_ok most gap clock f c =
     record { timed = refl; held = new_held clock (span_of gap) c (gap_within most gap f); ahead = new_ahead clock (span_of gap) c (gap_within most gap f) }
 
-pub timer_sent_ok : (policy : Policy) (timer : OptionTime) (clock : Time) → policy_fit policy ≡ true → Early clock → TimerIfAny policy clock timer
+pub timer_sent_ok : (policy : Policy) (timer : Option Time) (clock : Time) → policy_fit policy ≡ true → Early clock → TimerIfAny policy clock timer
     → TimerIfAny policy clock (timer_sent policy timer clock)
 unfolding timer_sent
 timer_sent_ok (Policy.Held w) timer clock f c k = k

@@ -1,4 +1,5 @@
 -- Each part's turn keeps a steady state: what it stores, requeues and picks. Assumes nothing.
+use Rattle.std.proofs.Common.{Some, None}
 use mathlib.Core.Path.{◌≡◌, refl, sym, subst}
 use mathlib.Core.Bool.{Bool, true, false, cond, false≢true}
 use mathlib.Core.List.{List, [], ◌∷◌}
@@ -19,7 +20,6 @@ use Rattle.link.specs.declared.link.Line.{Line}
 use Rattle.link.specs.declared.link.Arrival.{Arrival}
 use Rattle.link.specs.declared.link.Left.{Left}
 use Rattle.link.specs.declared.link.Left.TheVariants as Left
-use Rattle.link.specs.declared.link.Begun.TheVariants as Begun
 use Rattle.link.specs.declared.link.Delivered.{Delivered}
 use Rattle.link.specs.declared.link.Transmitted.{Transmitted}
 use Rattle.sender.specs.declared.lossy.SenderState.{SenderState}
@@ -37,7 +37,6 @@ use Rattle.toggler.specs.Queue.{pick_of}
 use Rattle.remy.specs.declared.network.RemyNetwork.{RemyNetwork}
 use Rattle.remy.specs.declared.simulation.Simulation.{Simulation}
 use Rattle.remy.specs.declared.simulation.Mark.TheVariants as Mark
-use Rattle.remy.specs.declared.simulation.Name.TheVariants as Name
 use Rattle.remy.specs.declared.simulation.TickRecord.{TickRecord}
 use Rattle.remy.specs.State.{has_back, line_count, values_of, Role, link, bouncer, sender, toggler, nobody, role_in, sender_part, toggler_part, line_at, sender_at, toggler_at, meter_at, first_of, front_of, packet_bits, with_sender, with_toggler, with_meter}
 use Rattle.remy.specs.Queue.{own_time, part_of, requeue, picked}
@@ -198,14 +197,14 @@ module _ (s : Simulation) (l : ℕ) (h : l < line_count s.network) (b : Between 
   turn left x new own fewer =
       let clock = s.head.clock in
       let F : Transmitted → Type 0 = λ t. OnMoves LandedBy (outcome_with (link l) (link_with s l (record { left = left; line = x }) t)) in
-      let starts : Transmitted = record { number = 0; begun = Begun.Starts (begun s l x); line = started s l x } in
+      let starts : Transmitted = record { number = 0; begun = Some (begun s l x); line = started s l x } in
       cond_elim F (is_free x clock) (cond (leb places x.on_line.count) (not_started x 13) starts) (not_started x 0)
       (λ e. cond_elim F (leb places x.on_line.count) (not_started x 13) starts
       (λ full. tt)
       (λ room.
       goes_on (left_record s l left (named (first_by s l x).packet)) (started s l x) (with_begun s l x) (start-line s b.body l h early x new e room) left own
       (λ i. omega (arith, fewer i, start-count s b.body l h early x new e room i))))
-      (λ e. goes_on (left_record s l left Name.None) x s.on_line new left own fewer)
+      (λ e. goes_on (left_record s l left None) x s.on_line new left own fewer)
 
   link_lands : OnMoves LandedBy (outcome_of s (link l))
   unfolding outcome_of acts_of link_acts try_deliver
@@ -247,7 +246,7 @@ module _ (s : Simulation) (i : ℕ) (h : i < s.network.senders) (b : Between (se
       (λ due. cond_elim F (eqb u.number 0)
       (record {
         number = 0;
-        note = record_at s (sender i) Mark.None (named u.packet) Name.None;
+        note = record_at s (sender i) Mark.None (named u.packet) None;
         simulation = with_sender s i (enabled_sender (sender_at s i) u.packets_sent u.enabled);
         messages = arrives 0 u.packet ∷ [];
       })
@@ -256,7 +255,7 @@ module _ (s : Simulation) (i : ℕ) (h : i < s.network.senders) (b : Between (se
       let x = enabled_sender (sender_at s i) u.packets_sent u.enabled in
       let zero_is = eqb-true u.number 0 z in
       let st = requeue (with_sender s i x) (sender i) in
-      let r = record_at s (sender i) Mark.None (named u.packet) Name.None in
+      let r = record_at s (sender i) Mark.None (named u.packet) None in
       lands (deliver r st (arrives 0 u.packet))
       (arrival st r 0 u.packet (first-there (has_back st.network.back)) (sender-ready x (send_body s b.body early i h e q zero_is))
       (loose_requeued (with_sender s i x) (sender i) u.packet (send_loose s b.body early i h e q zero_is))))
@@ -304,7 +303,7 @@ module _ (s : Simulation) (i : ℕ) (h : i < s.network.senders) (b : Between (to
   unfolding outcome_of acts_of toggler_acts deliver
   toggler_lands =
       cond_elim (λ (a : Acted). OnMoves LandedBy (outcome_with (toggler i) a)) (eqb flipped.number 0)
-      (record { number = 0; note = record_at s (toggler i) Mark.None Name.None Name.None; simulation = with_toggler s i flipped.toggler; messages = switches i flipped.toggler.enabled ∷ [] })
+      (record { number = 0; note = record_at s (toggler i) Mark.None None None; simulation = with_toggler s i flipped.toggler; messages = switches i flipped.toggler.enabled ∷ [] })
       (stopped s flipped.number)
       (λ z. land _ (unfold requeue in switched (eqb-true flipped.number 0 z)))
       (λ z. on-stopped LandedBy (toggler i) s flipped.number z)

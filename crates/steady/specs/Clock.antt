@@ -1,9 +1,8 @@
 -- Document 02, K6: the times that a state holds, what a tick makes of them, and that the clock can't go back. Definitions only.
-use Rattle.std.specs.Prelude.{◌≡◌, ◌⊎◌, true, T}
+use Rattle.std.specs.Prelude.{◌≡◌, ◌⊎◌, true, T, Some}
 use mathlib.Core.List.{List, [], ◌∷◌, Memᴰ}
 use Rattle.std.specs.Float.Ieee.{le}
 use Rattle.quantities.specs.declared.time.Time.{Time}
-use Rattle.quantities.specs.declared.time.OptionTime.TheVariants.{Some}
 use Rattle.quantities.specs.NewTime.{Double}
 use Rattle.remy.specs.declared.simulation.Simulation.{Simulation}
 use Rattle.remy.specs.declared.simulation.TickRecord.{TickRecord}

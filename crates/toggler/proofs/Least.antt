@@ -1,5 +1,6 @@
 -- What the pick picks: a time that is queued at the picked part, and that no queued time comes before.
 -- A NaN compares with nothing, so a law that puts one time before another says which of the two are no NaN. Assumes nothing.
+use Rattle.std.proofs.Common.{Option, Some, None}
 use mathlib.Core.Path.{◌≡◌, refl, ap, ◌∙◌}
 use mathlib.Core.Logic.{◌⊎◌, inl, inr, ⊎_elim}
 use mathlib.Core.Bool.{Bool, true, false, not, cond}
@@ -11,27 +12,25 @@ use lib.Ieee.{lt, le, is_nan}
 use lib.ListN.{length, get_or}
 use Rattle.quantities.proofs.Order.{not-lt→le, lt_trans, lt_irrefl}
 use Rattle.quantities.specs.declared.time.Time.{Time}
-use Rattle.quantities.specs.declared.time.OptionTime.{OptionTime}
-use Rattle.quantities.specs.declared.time.OptionTime.TheVariants.{None, Some}
 use Rattle.toggler.specs.declared.tick_queue.Queued.{Queued}
 use Rattle.toggler.specs.declared.tick_queue.Picked.{Picked}
 use Rattle.toggler.specs.Queue.{no_queued, sooner, better, pick_from, pick_of}
 
 -- ---- the order of the queue's places
 
-sooner_trans : (x y z : OptionTime) → T (sooner x y) → T (sooner y z) → T (sooner x z)
+sooner_trans : (x y z : Option Time) → T (sooner x y) → T (sooner y z) → T (sooner x z)
 unfolding sooner
 sooner_trans None y z h k = h
 sooner_trans (Some t) None z h k = absurd k
 sooner_trans (Some t) (Some u) None h k = tt
 sooner_trans (Some t) (Some u) (Some v) h k = lt_trans t.0.0 u.0.0 v.0.0 h k
 
-sooner_irrefl : (x : OptionTime) → T (not (sooner x x))
+sooner_irrefl : (x : Option Time) → T (not (sooner x x))
 unfolding sooner
 sooner_irrefl None = tt
 sooner_irrefl (Some t) = not_T (lt t.0.0 t.0.0) (lt_irrefl t.0.0)
 
-nothing-last : (x : OptionTime) → T (not (sooner x None)) → x ≡ None
+nothing-last : (x : Option Time) → T (not (sooner x None)) → x ≡ None
 unfolding sooner
 nothing-last None h = refl
 nothing-last (Some t) h = absurd h
@@ -39,7 +38,7 @@ nothing-last (Some t) h = absurd h
 -- ---- one turn
 
 -- what holds of the new best, by the two cases
-one_turn : (P : Picked → Type 0) (best : Picked) (x : OptionTime) (i : ℕ) → (T (sooner x best.time) → P (record { time = x; part = i }))
+one_turn : (P : Picked → Type 0) (best : Picked) (x : Option Time) (i : ℕ) → (T (sooner x best.time) → P (record { time = x; part = i }))
     → (T (not (sooner x best.time)) → P best) → P (better best x i)
 one_turn P best x i = cases (sooner x best.time)
   where
@@ -47,7 +46,7 @@ one_turn P best x i = cases (sooner x best.time)
     cases true f g = f tt
     cases false f g = g tt
 
-turn_time : (best : Picked) (x : OptionTime) (i : ℕ) → T (not (sooner x (better best x i).time))
+turn_time : (best : Picked) (x : Option Time) (i : ℕ) → T (not (sooner x (better best x i).time))
 turn_time best x i = one_turn (λ (p : Picked). T (not (sooner x p.time))) best x i (λ h. sooner_irrefl x) (λ h. h)
 
 -- ---- the pick over the places from i on, from the best so far
@@ -86,7 +85,7 @@ outcome (q ∷ queue) i best =
     (outcome queue (i + 1) (better best q.time i))
 
 -- what does not come before the best so far does not come before the picked one
-stays : (x : OptionTime) (queue : List Queued) (i : ℕ) (best : Picked) → T (not (sooner x best.time)) → T (not (sooner x (pick_from queue i best).time))
+stays : (x : Option Time) (queue : List Queued) (i : ℕ) (best : Picked) → T (not (sooner x best.time)) → T (not (sooner x (pick_from queue i best).time))
 stays x queue i best h =
     let picked = pick_from queue i best in
     ⊎_elim (λ (e : picked ≡ best). rw e h)

@@ -1,4 +1,5 @@
 -- One turn of the pick over the queue, and its end: where no place that is left holds a time. Assumes nothing.
+use Rattle.std.proofs.Common.{Option}
 use mathlib.Core.Path.{◌≡◌, refl, sym, ap, ◌∙◌}
 use mathlib.Core.Bool.{true, false}
 use mathlib.Core.List.{List, [], ◌∷◌}
@@ -7,12 +8,12 @@ use native.Mathlib.Numerals.{add-one}
 use native.Mathlib.Omega.{arith}
 use lib.ListN.{length, get_or, drop, set, get_or-eq_default}
 use lib.Seq.{drop-cons, get_or-set_other, get_or-drop}
-use Rattle.quantities.specs.declared.time.OptionTime.{OptionTime}
+use Rattle.quantities.specs.declared.time.Time.{Time}
 use Rattle.toggler.specs.declared.tick_queue.Queued.{Queued}
 use Rattle.toggler.specs.declared.tick_queue.Picked.{Picked}
 use Rattle.toggler.specs.Queue.{no_queued, sooner, better, pick_from}
 
-module _ (queue : List Queued) (time : OptionTime) (part i : ℕ) (h : i < length queue) where
+module _ (queue : List Queued) (time : Option Time) (part i : ℕ) (h : i < length queue) where
   turn : pick_from (drop (i + 1) queue) (i + 1) (better (record { time = time; part = part }) (get_or queue i no_queued).time i)
       ≡ pick_from (drop i queue) i (record { time = time; part = part })
   turn =

@@ -1,8 +1,7 @@
 -- Document 01, "Tick and history": the queue holds a time or nothing per part; the least time wins, lowest part on a tie. Definitions only.
-use Rattle.std.specs.Prelude.{ℕ, ◌+◌, Bool, true, false, cond, List, [], ◌∷◌}
+use Rattle.std.specs.Prelude.{ℕ, ◌+◌, Bool, true, false, cond, List, [], ◌∷◌, Option, Some, None}
 use Rattle.std.specs.Float.Ieee.{lt}
-use Rattle.quantities.specs.declared.time.OptionTime.{OptionTime}
-use Rattle.quantities.specs.declared.time.OptionTime.TheVariants.{None, Some}
+use Rattle.quantities.specs.declared.time.Time.{Time}
 use Rattle.toggler.specs.declared.tick_queue.Queued.{Queued}
 use Rattle.toggler.specs.declared.tick_queue.Picked.{Picked}
 
@@ -15,13 +14,13 @@ abbrev pub no_queued : Queued
 no_queued = record { time = None }
 
 -- a time that comes before another; nothing comes last
-unfoldable pub sooner : OptionTime → OptionTime → Bool
+unfoldable pub sooner : Option Time → Option Time → Bool
 sooner None b = false
 sooner (Some t) None = true
 sooner (Some t) (Some u) = lt t.0.0 u.0.0
 
 -- the better of the best so far and the part i
-abbrev pub better : Picked → OptionTime → ℕ → Picked
+abbrev pub better : Picked → Option Time → ℕ → Picked
 better best time i = cond (sooner time best.time) (record { time = time; part = i }) best
 
 abbrev pub pick_from : List Queued → ℕ → Picked → Picked

@@ -1,30 +1,29 @@
 ghost use Rattle.std.specs.Prelude.{◌≡◌};
 ghost use Rattle.toggler.specs.Queue.{sooner, pick_of};
 
-use quantities::OptionTime;
 
 // A part's place in the queue: its time, or nothing.
 #[derive(Clone, Copy)]
 pub struct Queued {
-    pub time: OptionTime,
+    pub time: Option<Time>,
 }
 
 // The part that is picked, and its time; nothing where nothing is queued.
 #[derive(Clone, Copy)]
 pub struct Picked {
-    pub time: OptionTime,
+    pub time: Option<Time>,
     pub part: usize,
 }
 
 // Whether the first time comes before the second. Nothing comes last.
-pub fn is_sooner(a: OptionTime, b: OptionTime) -> bool
+pub fn is_sooner(a: Option<Time>, b: Option<Time>) -> bool
     ensures { result ≡ sooner a b }
 {
     match a {
-        OptionTime::None => false,
-        OptionTime::Some(t) => match b {
-            OptionTime::None => true,
-            OptionTime::Some(u) => t.0.0 < u.0.0,
+        None => false,
+        Some(t) => match b {
+            None => true,
+            Some(u) => t.0.0 < u.0.0,
         },
     }
 }
@@ -33,7 +32,7 @@ pub fn is_sooner(a: OptionTime, b: OptionTime) -> bool
 pub fn pick(queue: [Queued; 35]) -> Picked
     ensures { result ≡ pick_of queue }
 {
-    let mut best = OptionTime::None;
+    let mut best = None;
     let mut part = 0;
     let mut i = 0;
     while i < 35 {

@@ -1,5 +1,5 @@
 -- The pieces of a tick that the loop of ticks calls, on small structs. Definitions only; the crate advance proves that with `queueing` they are the tick definition.
-use Rattle.std.specs.Prelude.{ℕ, Bool, true, false, cond, ltb}
+use Rattle.std.specs.Prelude.{ℕ, Bool, true, false, cond, ltb, Option, Some, None}
 use Rattle.quantities.specs.declared.time.Time.{Time}
 use Rattle.quantities.specs.Units.{span_of, rate_of, amount_of, since}
 use Rattle.meters.specs.declared.meter.AverageFlowMeter.{AverageFlowMeter}
@@ -7,14 +7,11 @@ use Rattle.meters.specs.Meter.{recorded_of}
 use Rattle.link.specs.declared.packet.Packet.{Packet}
 use Rattle.link.specs.declared.packet.Waiting.{Waiting}
 use Rattle.link.specs.declared.packet.Transit.{Transit}
-use Rattle.link.specs.declared.link.Limit.{Limit}
 use Rattle.link.specs.declared.link.Line.{Line}
 use Rattle.link.specs.declared.link.LineValues.{LineValues}
 use Rattle.link.specs.declared.link.Arrival.{Arrival}
 use Rattle.link.specs.declared.link.Left.{Left}
 use Rattle.link.specs.declared.link.Left.TheVariants as Left
-use Rattle.link.specs.declared.link.Begun.{Begun}
-use Rattle.link.specs.declared.link.Begun.TheVariants as Begun
 use Rattle.link.specs.declared.link.Delivered.{Delivered}
 use Rattle.link.specs.declared.link.Transmitted.{Transmitted}
 use Rattle.sender.specs.declared.lossy.Policy.{Policy}
@@ -32,16 +29,12 @@ use Rattle.sender.specs.Sender.{timer_due, tick_timer, tick_send, enabled_of, di
 use Rattle.remy.specs.declared.network.RemyNetwork.{RemyNetwork}
 use Rattle.remy.specs.declared.simulation.Mark.{Mark}
 use Rattle.remy.specs.declared.simulation.Mark.TheVariants as Mark
-use Rattle.remy.specs.declared.simulation.Name.{Name}
-use Rattle.remy.specs.declared.simulation.Name.TheVariants as Name
 use Rattle.remy.specs.declared.simulation.TickRecord.{TickRecord}
 use Rattle.remy.specs.State.{sender_part, toggler_part}
 use Rattle.remy.specs.Tick.{named, begun_name, admitted_mark, full_mark, lost_mark, to_bouncer, enabled_sender, heard_mark}
 use Rattle.turns.specs.declared.LinkValues.{LinkValues}
 use Rattle.turns.specs.declared.LinkActed.{LinkActed}
 use Rattle.turns.specs.declared.Hearing.{Hearing}
-use Rattle.turns.specs.declared.Sending.{Sending}
-use Rattle.turns.specs.declared.Sending.TheVariants as Sending
 use Rattle.turns.specs.declared.SenderActed.{SenderActed}
 use Rattle.turns.specs.declared.Arriving.{Arriving}
 
@@ -62,15 +55,15 @@ link_acted v x clock front first =
     let d = try_deliver x clock front v.loss in
     link_took d (try_transmit d.line clock first (span_of v.delay) (rate_of v.rate))
 
-abbrev pub on_line_at : Begun → Transit → Transit
-on_line_at Begun.Nobody old = old
-on_line_at (Begun.Starts x) old = x
+abbrev pub on_line_at : Option Transit → Transit → Transit
+on_line_at None old = old
+on_line_at (Some x) old = x
 
 -- what the bouncer passes on of what left line l
-abbrev pub passed_on : RemyNetwork → ℕ → Left → Sending
-passed_on n l Left.Nobody = Sending.Nothing
-passed_on n l (Left.Lost p) = Sending.Nothing
-passed_on n l (Left.Out p) = cond (to_bouncer n l) (Sending.Packet p) Sending.Nothing
+abbrev pub passed_on : RemyNetwork → ℕ → Left → Option Packet
+passed_on n l Left.Nobody = None
+passed_on n l (Left.Lost p) = None
+passed_on n l (Left.Out p) = cond (to_bouncer n l) (Some p) None
 
 abbrev pub heard_meter_of : ℕ → Time → Packet → AverageFlowMeter → Heard → AverageFlowMeter
 heard_meter_of bits clock p m Heard.Ignored = m
@@ -86,24 +79,24 @@ heard_by policy bits clock l Left.Nobody x m = record { heard = false; mark = Ma
 heard_by policy bits clock l (Left.Lost p) x m = record { heard = false; mark = lost_mark l; sender = x; meter = m }
 heard_by policy bits clock l (Left.Out p) x m = heard_with bits clock p m (returned_of policy x p)
 
-abbrev pub left_name : Left → Name
-left_name Left.Nobody = Name.None
+abbrev pub left_name : Left → Option (ℕ × ℕ)
+left_name Left.Nobody = None
 left_name (Left.Lost p) = named p
 left_name (Left.Out p) = named p
 
-abbrev pub link_note : Time → ℕ → Left → Begun → Mark → TickRecord
+abbrev pub link_note : Time → ℕ → Left → Option Transit → Mark → TickRecord
 link_note clock part left begun mark = record { time = clock; part = part; mark = mark; packet = left_name left; started = begun_name begun }
 
 -- ---- a sender
 
 abbrev pub timer_took : LossySender → Enabled → SenderActed
-timer_took x e = record { number = 0; sending = Sending.Nothing; sender = enabled_sender x x.packets_sent e }
+timer_took x e = record { number = 0; sending = None; sender = enabled_sender x x.packets_sent e }
 
 abbrev pub send_took : LossySender → Sent → SenderActed
-send_took x t = record { number = t.number; sending = Sending.Packet t.packet; sender = enabled_sender x t.packets_sent t.enabled }
+send_took x t = record { number = t.number; sending = Some t.packet; sender = enabled_sender x t.packets_sent t.enabled }
 
 abbrev pub sender_took : RemyNetwork → Time → LossySender → ℕ → SenderState → SenderActed
-sender_took n clock x i State.WaitingForEnable = record { number = 9; sending = Sending.Nothing; sender = x }
+sender_took n clock x i State.WaitingForEnable = record { number = 9; sending = None; sender = x }
 sender_took n clock x i (State.Enabled e) =
     cond (timer_due e clock) (timer_took x (tick_timer n.policy e clock)) (send_took x (tick_send x.packets_sent n.policy e clock i))
 
@@ -119,26 +112,26 @@ abbrev pub arrived_with : ℕ → Line → Arrival → Arriving
 arrived_with l x a = record { number = a.number; arrives = true; admitted = a.admitted; at = place_after x.waiting; mark = arrival_mark l a.admitted; line = a.line }
 
 -- nothing arrives: a sender's timer
-unfoldable pub arrived_at : ℕ → Limit → ℕ → Line → Sending → Arriving
-arrived_at l limit bits x Sending.Nothing = record { number = 0; arrives = false; admitted = false; at = place_after x.waiting; mark = Mark.Timer; line = x }
-arrived_at l limit bits x (Sending.Packet p) = arrived_with l x (receive_of limit x (amount_of bits))
+unfoldable pub arrived_at : ℕ → Option ℕ → ℕ → Line → Option Packet → Arriving
+arrived_at l limit bits x None = record { number = 0; arrives = false; admitted = false; at = place_after x.waiting; mark = Mark.Timer; line = x }
+arrived_at l limit bits x (Some p) = arrived_with l x (receive_of limit x (amount_of bits))
 
 -- a packet waits with its sender's bits
-abbrev pub sent_packet : ℕ → Sending → Waiting → Waiting
-sent_packet bits Sending.Nothing old = old
-sent_packet bits (Sending.Packet p) old = record { packet = p; bits = amount_of bits }
+abbrev pub sent_packet : ℕ → Option Packet → Waiting → Waiting
+sent_packet bits None old = old
+sent_packet bits (Some p) old = record { packet = p; bits = amount_of bits }
 
-abbrev pub waiting_at : Bool → ℕ → Sending → Waiting → Waiting
+abbrev pub waiting_at : Bool → ℕ → Option Packet → Waiting → Waiting
 waiting_at admitted bits sending old = cond admitted (sent_packet bits sending old) old
 
 -- ---- the record of a sender's turn
 
-abbrev pub sending_name : Sending → Name
-sending_name Sending.Nothing = Name.None
-sending_name (Sending.Packet p) = named p
+abbrev pub sending_name : Option Packet → Option (ℕ × ℕ)
+sending_name None = None
+sending_name (Some p) = named p
 
-abbrev pub sender_note : Time → ℕ → Sending → Mark → TickRecord
-sender_note clock i sending mark = record { time = clock; part = sender_part i; mark = mark; packet = sending_name sending; started = Name.None }
+abbrev pub sender_note : Time → ℕ → Option Packet → Mark → TickRecord
+sender_note clock i sending mark = record { time = clock; part = sender_part i; mark = mark; packet = sending_name sending; started = None }
 
 -- ---- a toggler
 
@@ -146,4 +139,4 @@ abbrev pub switched_to : Policy → Bool → LossySender → Time → LossySende
 switched_to policy on x clock = cond on (enabled_of policy x clock) (disabled_of x)
 
 abbrev pub toggler_note : Time → ℕ → Bool → TickRecord
-toggler_note clock i on = record { time = clock; part = toggler_part i; mark = cond on Mark.Enabled Mark.Disabled; packet = Name.None; started = Name.None }
+toggler_note clock i on = record { time = clock; part = toggler_part i; mark = cond on Mark.Enabled Mark.Disabled; packet = None; started = None }

@@ -11,11 +11,11 @@ ghost use Rattle.remy.specs.Run.{batch, noted_with};
 ghost use Rattle.turns.specs.Turns.{left_name, owner_of, link_values, link_acted, on_line_at, passed_on, heard_by, link_note, sender_acted, arrival_mark, arrived_at, waiting_at, sender_note, switched_to, toggler_note};
 
 use lent::record_lending;
-use link::{Begun, Left, Limit, Line, Packet, Transit, Waiting};
+use link::{Left, Line, Packet, Transit, Waiting};
 use meters::{AverageFlowMeter, Reception};
 use quantities::{Information, InformationRate, Time, TimeSpan};
 use queueing::time_anew;
-use remy::{Mark, Name, Noted, RemyNetwork, ReturnLine, TickRecord};
+use remy::{Mark, Noted, RemyNetwork, TickRecord};
 use sender::{Enabled, Heard, LossySender, Policy, SenderState};
 
 // The values of a line that its link's turn reads: its delay, rate and loss.
@@ -32,7 +32,7 @@ pub struct LinkValues {
 pub struct LinkActed {
     pub number: u32,
     pub left: Left,
-    pub begun: Begun,
+    pub begun: Option<Transit>,
     pub at: usize,
     pub line: Line,
 }
@@ -56,7 +56,7 @@ pub enum Sending {
 #[derive(Clone, Copy)]
 pub struct SenderActed {
     pub number: u32,
-    pub sending: Sending,
+    pub sending: Option<Packet>,
     pub sender: LossySender,
 }
 
@@ -174,12 +174,12 @@ pub fn values_at(network: RemyNetwork, l: usize) -> LinkValues
         };
     }
     match back {
-        ReturnLine::None => LinkValues {
+        None => LinkValues {
             delay: first.delay,
             rate: first.rate,
             loss: first.loss,
         },
-        ReturnLine::Line(second) => LinkValues {
+        Some(second) => LinkValues {
             delay: second.delay,
             rate: second.rate,
             loss: second.loss,
@@ -219,31 +219,31 @@ pub fn link_acts(
 }
 
 // What a place of the line holds then.
-pub fn on_line_at(begun: Begun, old: Transit) -> Transit
+pub fn on_line_at(begun: Option<Transit>, old: Transit) -> Transit
     ensures { result ≡ on_line_at begun old }
 {
     match begun {
-        Begun::Nobody => transit_anew(old),
-        Begun::Starts(x) => transit_anew(x),
+        None => transit_anew(old),
+        Some(x) => transit_anew(x),
     }
 }
 
 // What the bouncer passes on to the return line: the packet that left the first line, if there is a
 // return line and it was not lost.
-pub fn pass_on(network: RemyNetwork, l: usize, left: Left) -> Sending
+pub fn pass_on(network: RemyNetwork, l: usize, left: Left) -> Option<Packet>
     ensures { result ≡ passed_on network l left }
 {
     let back = network.back;
     match left {
-        Left::Nobody => Sending::Nothing,
-        Left::Lost(_) => Sending::Nothing,
+        Left::Nobody => None,
+        Left::Lost(_) => None,
         Left::Out(packet) => {
             if l != 0 {
-                return Sending::Nothing;
+                return None;
             }
             match back {
-                ReturnLine::None => Sending::Nothing,
-                ReturnLine::Line(_) => Sending::Packet(packet),
+                None => None,
+                Some(_) => Some(packet),
             }
         }
     }
@@ -334,7 +334,7 @@ pub fn hear(
 }
 
 // The record of a link's turn, the link being so many a part.
-pub fn link_note(clock: Time, part: usize, left: Left, begun: Begun, mark: Mark) -> TickRecord
+pub fn link_note(clock: Time, part: usize, left: Left, begun: Option<Transit>, mark: Mark) -> TickRecord
     ensures { result ≡ link_note clock part left begun mark }
 {
     let packet = left_name(left);
@@ -348,22 +348,22 @@ pub fn link_note(clock: Time, part: usize, left: Left, begun: Begun, mark: Mark)
     }
 }
 
-fn left_name(left: Left) -> Name
+fn left_name(left: Left) -> Option<(u32, u32)>
     ensures { result ≡ left_name left }
 {
     match left {
-        Left::Nobody => Name::None,
-        Left::Lost(p) => Name::Packet(p.sender, p.seq),
-        Left::Out(p) => Name::Packet(p.sender, p.seq),
+        Left::Nobody => None,
+        Left::Lost(p) => Some((p.sender, p.seq)),
+        Left::Out(p) => Some((p.sender, p.seq)),
     }
 }
 
-fn begun_name(begun: Begun) -> Name
+fn begun_name(begun: Option<Transit>) -> Option<(u32, u32)>
     ensures { result ≡ begun_name begun }
 {
     match begun {
-        Begun::Nobody => Name::None,
-        Begun::Starts(x) => Name::Packet(x.packet.sender, x.packet.seq),
+        None => None,
+        Some(x) => Some((x.packet.sender, x.packet.seq)),
     }
 }
 
@@ -378,7 +378,7 @@ pub fn sender_acts(network: RemyNetwork, clock: Time, sender: LossySender, i: us
     let SenderState::Enabled(enabled) = state else {
         return SenderActed {
             number: 9,
-            sending: Sending::Nothing,
+            sending: None,
             sender,
         };
     };
@@ -394,7 +394,7 @@ pub fn sender_acts(network: RemyNetwork, clock: Time, sender: LossySender, i: us
         };
         return SenderActed {
             number: 0,
-            sending: Sending::Nothing,
+            sending: None,
             sender,
         };
     }
@@ -408,7 +408,7 @@ pub fn sender_acts(network: RemyNetwork, clock: Time, sender: LossySender, i: us
     };
     SenderActed {
         number: t.number,
-        sending: Sending::Packet(packet),
+        sending: Some(packet),
         sender,
     }
 }
@@ -433,12 +433,12 @@ fn arrival_mark(l: usize, admitted: bool) -> Mark
 //
 // A helper for the crate `advance`, and no entry point: the rings and the waiting bits have been
 // tested there (9).
-pub fn arrive(l: usize, limit: Limit, bits: u64, line: Line, sending: Sending) -> Arriving
+pub fn arrive(l: usize, limit: Option<u64>, bits: u64, line: Line, sending: Option<Packet>) -> Arriving
     requires { (line.waiting.start < 512) × (line.waiting.count ≤ 512) × (line.buffer_contains.0 + bits < 2 ^ 64) }
     ensures { result ≡ arrived_at l limit bits line sending }
 {
     let at = line.waiting.end();
-    let Sending::Packet(_) = sending else {
+    let Some(_) = sending else {
         return Arriving {
             number: 0,
             arrives: false,
@@ -462,15 +462,15 @@ pub fn arrive(l: usize, limit: Limit, bits: u64, line: Line, sending: Sending) -
 }
 
 // What a place of the queue of packets holds then: an admitted packet waits with its sender's bits.
-pub fn waiting_at(admitted: bool, bits: u64, sending: Sending, old: Waiting) -> Waiting
+pub fn waiting_at(admitted: bool, bits: u64, sending: Option<Packet>, old: Waiting) -> Waiting
     ensures { result ≡ waiting_at admitted bits sending old }
 {
     if !admitted {
         return waiting_anew(old);
     }
     match sending {
-        Sending::Nothing => waiting_anew(old),
-        Sending::Packet(sent) => {
+        None => waiting_anew(old),
+        Some(sent) => {
             let packet = packet_anew(sent);
             let bits = Information(bits);
             Waiting { packet, bits }
@@ -481,25 +481,25 @@ pub fn waiting_at(admitted: bool, bits: u64, sending: Sending, old: Waiting) -> 
 // The record of a sender's turn.
 //
 // A helper for the crate `advance`, and no entry point: the next part has been tested there (9).
-pub fn sender_note(clock: Time, i: usize, sending: Sending, mark: Mark) -> TickRecord
+pub fn sender_note(clock: Time, i: usize, sending: Option<Packet>, mark: Mark) -> TickRecord
     requires { i < 16 }
     ensures { result ≡ sender_note clock i sending mark }
 {
     let part = 1 + 2 * i;
     match sending {
-        Sending::Nothing => TickRecord {
+        None => TickRecord {
             time: clock,
             part,
             mark,
-            packet: Name::None,
-            started: Name::None,
+            packet: None,
+            started: None,
         },
-        Sending::Packet(p) => TickRecord {
+        Some(p) => TickRecord {
             time: clock,
             part,
             mark,
-            packet: Name::Packet(p.sender, p.seq),
-            started: Name::None,
+            packet: Some((p.sender, p.seq)),
+            started: None,
         },
     }
 }
@@ -528,16 +528,16 @@ pub fn toggler_note(clock: Time, i: usize, on: bool) -> TickRecord
             time: clock,
             part,
             mark: Mark::Enabled,
-            packet: Name::None,
-            started: Name::None,
+            packet: None,
+            started: None,
         }
     } else {
         TickRecord {
             time: clock,
             part,
             mark: Mark::Disabled,
-            packet: Name::None,
-            started: Name::None,
+            packet: None,
+            started: None,
         }
     }
 }
@@ -550,8 +550,8 @@ pub fn empty_record() -> TickRecord
         time: Time(TimeSpan(0.0)),
         part: 0,
         mark: Mark::None,
-        packet: Name::None,
-        started: Name::None,
+        packet: None,
+        started: None,
     }
 }
 

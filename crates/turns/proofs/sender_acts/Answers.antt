@@ -1,15 +1,14 @@
 -- Each return rewrites by the tests and the cases that led there. Assumes nothing.
-use Rattle.std.proofs.Common.{ap, sym}
+use Rattle.std.proofs.Common.{ap, sym, None}
 use Rattle.sender.specs.declared.lossy.LossySender.{LossySender}
 use Rattle.sender.specs.declared.lossy.SenderState.{SenderState}
 use Rattle.turns.specs.declared.SenderActed.{SenderActed}
-use Rattle.turns.specs.declared.Sending.TheVariants as Sending
 use Rattle.turns.specs.Turns.{sender_acted}
 use Rattle.turns.proofs.sender_acts.Goals as goal
 
 -- nothing is sent, and the sender is as it was, but for its state
 abbrev idle : LossySender → SenderState → SenderActed
-idle s state = record { number = 9; sending = Sending.Nothing; sender = record { packets_sent = s.packets_sent; state = state; rng = s.rng } }
+idle s state = record { number = 9; sending = None; sender = record { packets_sent = s.packets_sent; state = state; rng = s.rng } }
 
 pub returns-in_default : goal.returns-in_default
 unfolding sender_acted

@@ -1,12 +1,13 @@
 -- `builder::queue::queue_all` meets its contract. The invariant: the places filled so far, and the times of the parts that are left, are the times of all parts. The measure is what is left.
 -- Assumes nothing.
+use Rattle.std.proofs.Common.{Option}
 use Prim.Native.Nat.{◌+◌, ◌-◌, ◌≤◌, ◌<◌}
 use mathlib.Core.Path.{◌≡◌, refl, sym, ap, ◌∙◌}
 use mathlib.Core.Bool.{Bool}
 use mathlib.Core.List.{List, ◌++◌}
 use native.Mathlib.Omega.{arith}
 use lib.ListN.{length, take, set, length-set}
-use Rattle.quantities.specs.declared.time.OptionTime.{OptionTime}
+use Rattle.quantities.specs.declared.time.Time.{Time}
 use Rattle.toggler.specs.declared.tick_queue.Queued.{Queued}
 use Rattle.toggler.specs.Queue.{queue_places}
 use Rattle.link.specs.Ring.{places}
@@ -60,7 +61,7 @@ pub loop-k-init : goal.loop-k-init
 loop-k-init c = (omega arith, refl, refl)
 
 pub loop-k-preserved-in-Stop : goal.loop-k-preserved-in-Stop
-loop-k-preserved-in-Stop c = filled (goal.at.loop-k-preserved-in-Stop c).After-role-now _ (ap (λ (t : OptionTime). record { time = t }) (sym (time-known (goal.at.loop-k-preserved-in-Stop c).After-role-now _ c.in-Stop.is)))
+loop-k-preserved-in-Stop c = filled (goal.at.loop-k-preserved-in-Stop c).After-role-now _ (ap (λ (t : Option Time). record { time = t }) (sym (time-known (goal.at.loop-k-preserved-in-Stop c).After-role-now _ c.in-Stop.is)))
 
 pub offset_bounds-simulation-l : goal.offset_bounds-simulation-l
 offset_bounds-simulation-l c = omega (arith, line-there c)
@@ -83,7 +84,7 @@ bounds-simulation-start c = omega (arith, line-there (goal.at.bounds-simulation-
 pub loop-k-preserved-in-Link : goal.loop-k-preserved-in-Link
 unfolding own_time
 loop-k-preserved-in-Link c =
-    filled (goal.at.loop-k-preserved-in-Link c).After-role-now _ (ap (λ (t : OptionTime). record { time = t }) (c.next_tick-time.ensures ∙ sym (time-known (goal.at.loop-k-preserved-in-Link c).After-role-now _ c.in-Link.is).1))
+    filled (goal.at.loop-k-preserved-in-Link c).After-role-now _ (ap (λ (t : Option Time). record { time = t }) (c.next_tick-time.ensures ∙ sym (time-known (goal.at.loop-k-preserved-in-Link c).After-role-now _ c.in-Link.is).1))
 
 pub offset_bounds-simulation-i : goal.offset_bounds-simulation-i
 offset_bounds-simulation-i c = omega (arith, sender-there c)
@@ -94,7 +95,7 @@ bounds-simulation-i c = sender-there c
 pub loop-k-preserved-in-Sender : goal.loop-k-preserved-in-Sender
 unfolding own_time
 loop-k-preserved-in-Sender c =
-    filled (goal.at.loop-k-preserved-in-Sender c).After-role-now _ (ap (λ (t : OptionTime). record { time = t }) (c.next_tick-time-in-Sender.ensures ∙ sym (time-known (goal.at.loop-k-preserved-in-Sender c).After-role-now _ c.in-Sender.is).1))
+    filled (goal.at.loop-k-preserved-in-Sender c).After-role-now _ (ap (λ (t : Option Time). record { time = t }) (c.next_tick-time-in-Sender.ensures ∙ sym (time-known (goal.at.loop-k-preserved-in-Sender c).After-role-now _ c.in-Sender.is).1))
 
 pub offset_bounds-simulation-i-in-Toggler : goal.offset_bounds-simulation-i-in-Toggler
 offset_bounds-simulation-i-in-Toggler c = omega (arith, toggler-there c)
@@ -105,7 +106,7 @@ bounds-simulation-i-in-Toggler c = toggler-there c
 pub loop-k-preserved : goal.loop-k-preserved
 unfolding own_time
 loop-k-preserved c =
-    filled (goal.at.loop-k-preserved c).After-role-now _ (c.toggler_slot-place.ensures ∙ ap (λ (t : OptionTime). record { time = t }) (sym (time-known (goal.at.loop-k-preserved c).After-role-now _ c.in-Toggler.is).1))
+    filled (goal.at.loop-k-preserved c).After-role-now _ (c.toggler_slot-place.ensures ∙ ap (λ (t : Option Time). record { time = t }) (sym (time-known (goal.at.loop-k-preserved c).After-role-now _ c.in-Toggler.is).1))
 
 pub returns : goal.returns
 unfolding queued_all
