@@ -1,2 +1,1 @@
 -- Laws that the crates above cite.
-pub mod Fold

@@ -1,5 +1,5 @@
 -- Document 01, "Meter" and row 17 of "Stops": the mean over a list of flow records. Definitions only.
-use Rattle.std.specs.Prelude.{ℕ, ◌+◌, Bool, true, ◌&&◌, cond, List, [], ◌∷◌, length, leb, ltb, eqb, Float, Result, Ok, Err}
+use Rattle.std.specs.Prelude.{ℕ, ◌+◌, Bool, true, ◌&&◌, cond, List, [], ◌∷◌, length, leb, ltb, Float, Result, Ok, Err}
 use Rattle.std.specs.Float.{binary64}
 use Rattle.std.specs.Float.Ieee.{add}
 use Rattle.quantities.specs.declared.time_span.TimeSpan.{TimeSpan}
@@ -7,15 +7,15 @@ use Rattle.quantities.specs.Doubles.{zero_f, power, in_range}
 use Rattle.quantities.specs.Units.{span_of, rate_of, rate_over}
 use Rattle.flows.specs.declared.flow.FlowProperties.{FlowProperties}
 use Rattle.flows.specs.declared.sums.FlowSum.{FlowSum}
-use Rattle.flows.specs.declared.sums.Mean.{Mean}
-use Rattle.flows.specs.declared.sums.Mean.TheVariants.{Average, Refused}
+use Rattle.flows.specs.declared.sums.NoMean.{NoMean}
+use Rattle.flows.specs.declared.flow.NoPacketsAcked.{NoPacketsAcked}
 use Rattle.flows.specs.Sums.{summed_of, average_rtt, FlowAnswer, refusal}
 
 -- ---- the mean of a list
 
 -- the rate, and the RTT where present, in 0..2^60
 abbrev pub rtt_fit : Result TimeSpan NoPacketsAcked → Bool
-rtt_fit (Err no_packets_acked) = true
+rtt_fit (Err e) = true
 rtt_fit (Ok t) = in_range zero_f (power 60) t.0
 
 unfoldable pub member_fit : FlowProperties → Bool
@@ -31,7 +31,7 @@ rates [] = []
 rates (f ∷ fs) = f.throughput.0 ∷ rates fs
 
 abbrev pub with_rtt : Result TimeSpan NoPacketsAcked → List Float → List Float
-with_rtt (Err no_packets_acked) xs = xs
+with_rtt (Err e) xs = xs
 with_rtt (Ok t) xs = t.0 ∷ xs
 
 abbrev pub rtts : List FlowProperties → List Float
@@ -61,38 +61,34 @@ average_of fs =
 -- ---- the aggregator: one record at a time
 
 abbrev pub start_of : FlowSum
-start_of = record { number = 0; count = 0; throughput = rate_of zero_f; rtt_count = 0; rtt = span_of zero_f }
-
-abbrev pub refused_sum : FlowSum
-refused_sum = record { number = 17; count = 0; throughput = rate_of zero_f; rtt_count = 0; rtt = span_of zero_f }
+start_of = record { count = 0; throughput = rate_of zero_f; rtt_count = 0; rtt = span_of zero_f }
 
 abbrev pub rtt_count_of : ℕ → Result TimeSpan NoPacketsAcked → ℕ
-rtt_count_of n (Err no_packets_acked) = n
+rtt_count_of n (Err e) = n
 rtt_count_of n (Ok t) = n + 1
 
 abbrev pub rtt_sum_of : ℕ → TimeSpan → Result TimeSpan NoPacketsAcked → TimeSpan
-rtt_sum_of n sum (Err no_packets_acked) = sum
+rtt_sum_of n sum (Err e) = sum
 rtt_sum_of n sum (Ok t) = span_of (summed_of n sum.0 t.0)
 
-unfoldable pub added_of : FlowSum → FlowProperties → FlowSum
+unfoldable pub added_of : FlowSum → FlowProperties → Result FlowSum NoMean
 added_of s f =
-    cond (eqb s.number 0 && ltb s.count 65536 && leb s.rtt_count s.count && member_fit f)
-    (record {
-      number = 0;
+    cond (ltb s.count 65536 && leb s.rtt_count s.count && member_fit f)
+    (Ok (record {
       count = s.count + 1;
       throughput = rate_of (summed_of s.count s.throughput.0 f.throughput.0);
       rtt_count = rtt_count_of s.rtt_count f.rtt;
       rtt = rtt_sum_of s.rtt_count s.rtt f.rtt;
-    })
-    refused_sum
+    }))
+    (Err (record {}))
 
 unfoldable pub mean_of : FlowSum → FlowAnswer
 mean_of s =
-    cond (eqb s.number 0 && ltb 0 s.count)
+    cond (ltb 0 s.count)
     (record { number = 0; throughput = rate_over s.throughput s.count; rtt = average_rtt s.rtt_count s.rtt })
     (refusal 17)
 
 -- the number and the values of each case of a mean's answer
-abbrev pub told_mean : Mean → FlowAnswer
-told_mean (Average f) = record { number = 0; throughput = f.throughput; rtt = f.rtt }
-told_mean Refused = refusal 17
+abbrev pub told_mean : Result FlowProperties NoMean → FlowAnswer
+told_mean (Ok f) = record { number = 0; throughput = f.throughput; rtt = f.rtt }
+told_mean (Err e) = refusal 17

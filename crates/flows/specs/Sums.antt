@@ -3,6 +3,7 @@ use Rattle.std.specs.Prelude.{ℕ, cond, eqb, Float, Result, Ok, Err}
 use Rattle.std.specs.Float.{binary64}
 use Rattle.std.specs.Float.Ieee.{add}
 use Rattle.quantities.specs.declared.time_span.TimeSpan.{TimeSpan}
+use Rattle.flows.specs.declared.flow.NoPacketsAcked.{NoPacketsAcked}
 use Rattle.quantities.specs.declared.information_rate.InformationRate.{InformationRate}
 use Rattle.quantities.specs.Doubles.{zero_f}
 use Rattle.quantities.specs.Units.{span_over, rate_of}
@@ -11,9 +12,13 @@ use Rattle.quantities.specs.Units.{span_over, rate_of}
 unfoldable pub summed_of : ℕ → Float → Float → Float
 summed_of count sum next = cond (eqb count 0) next (add binary64 sum next)
 
+-- no packet was acknowledged
+abbrev pub no_rtt : Result TimeSpan NoPacketsAcked
+no_rtt = Err (record {})
+
 -- RTT: sum in order / count, absent if none.
 unfoldable pub average_rtt : ℕ → TimeSpan → Result TimeSpan NoPacketsAcked
-average_rtt count sum = cond (eqb count 0) (Err no_packets_acked) (Ok (span_over sum count))
+average_rtt count sum = cond (eqb count 0) no_rtt (Ok (span_over sum count))
 
 -- What a read of a meter and a mean of flows give in document 01's terms: the number, and at 0 the rate and the RTT. A refusal has neither: rate 0, RTT absent.
 pub record FlowAnswer : Type 0 where
@@ -22,4 +27,4 @@ pub record FlowAnswer : Type 0 where
   pub rtt : Result TimeSpan NoPacketsAcked
 
 abbrev pub refusal : ℕ → FlowAnswer
-refusal n = record { number = n; throughput = rate_of zero_f; rtt = (Err no_packets_acked) }
+refusal n = record { number = n; throughput = rate_of zero_f; rtt = no_rtt }

@@ -1,13 +1,10 @@
 use quantities::{InformationRate, TimeSpan};
 
-// The mean round-trip time of a flow, if any packet was acknowledged.
-#[derive(Clone, Copy)]
-pub enum Rtt {
-    NoPacketsAcked,
-    Known(TimeSpan),
-}
+// Why a flow has no mean round-trip time.
+#[derive(Clone, Copy, PartialEq, Eq)]
+pub struct NoPacketsAcked;
 
-// A flow record: its throughput and its round-trip time.
+// A flow record: its throughput, and the mean of its round-trip times.
 #[derive(Clone, Copy)]
 pub struct FlowProperties {
     pub throughput: InformationRate,

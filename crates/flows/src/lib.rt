@@ -6,4 +6,4 @@ pub mod flow;
 pub mod sums;
 
 pub use flow::{FlowProperties, NoPacketsAcked};
-pub use sums::{FlowSum, Mean};
+pub use sums::{FlowSum, NoMean};
