@@ -4,11 +4,9 @@
 #![tactic(auto)]
 
 ghost use Rattle.std.specs.Prelude.{◌≡◌};
-ghost use Rattle.meters.specs.Meter.{switched_of, received_of};
 ghost use Rattle.meters.specs.declared.meter.Metered.{Metered};
 
-use meters::{AverageFlowMeter, Metered, Reception};
-use quantities::Time;
+use meters::{AverageFlowMeter, Metered};
 
 // Changes a lent meter as the method does that takes it by value, and answers the method's number.
 //
@@ -23,8 +21,7 @@ pub fn thin<P, Q, F: FnOnce(AverageFlowMeter, P, Q) -> Metered>(
     ensures answered { (answer : _) × F.post method meter.old x y answer × (result ≡ answer.number) × (meter.new ≡ answer.meter) }
     ensures defined { (told : Metered) → ((answer : _) → F.post method meter.old x y answer → answer ≡ told) → (result ≡ told.number) × (meter.new ≡ told.meter) }
 {
-    let was = *meter;
-    let answer = method(was, x, y);
+    let answer = method(*meter, x, y);
     *meter = answer.meter;
     answer.number
 }
@@ -48,52 +45,4 @@ pub fn lending<P, Q, F: FnOnce(&mut AverageFlowMeter, P, Q) -> u32>(
         number,
         meter: lent,
     }
-}
-
-// What `lent` promises of its four functions over a meter, by the two laws alone.
-
-fn switch_by_thin(meter: &mut AverageFlowMeter, on: bool, time: Time) -> u32
-    ensures { (result ≡ (switched_of meter.old on time).number) × (meter.new ≡ (switched_of meter.old on time).meter) }
-{
-    thin(
-        meter,
-        on,
-        time,
-        |m: AverageFlowMeter, on: bool, time: Time| m.switch(on, time),
-    )
-}
-
-fn record_by_thin(meter: &mut AverageFlowMeter, packet: Reception, time: Time) -> u32
-    ensures { (result ≡ (received_of meter.old packet time).number) × (meter.new ≡ (received_of meter.old packet time).meter) }
-{
-    thin(
-        meter,
-        packet,
-        time,
-        |m: AverageFlowMeter, packet: Reception, time: Time| m.packet_received(packet, time),
-    )
-}
-
-fn switch_by_lending(meter: AverageFlowMeter, on: bool, time: Time) -> Metered
-    ensures { result ≡ switched_of meter on time }
-{
-    lending(
-        meter,
-        on,
-        time,
-        |m: &mut AverageFlowMeter, on: bool, time: Time| { switch_by_thin(m, on, time) },
-    )
-}
-
-fn record_by_lending(meter: AverageFlowMeter, packet: Reception, time: Time) -> Metered
-    ensures { result ≡ received_of meter packet time }
-{
-    lending(
-        meter,
-        packet,
-        time,
-        |m: &mut AverageFlowMeter, packet: Reception, time: Time| {
-            record_by_thin(m, packet, time)
-        },
-    )
 }

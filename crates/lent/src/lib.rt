@@ -6,7 +6,8 @@ ghost use Rattle.std.specs.Prelude.{◌≡◌};
 ghost use Rattle.flows.specs.Average.{average_of, told_mean};
 ghost use Rattle.meters.specs.Meter.{switched_of, received_of};
 
-use flows::{FlowProperties, FlowSum, Mean};
+use flows::{FlowProperties, FlowSum, NoMean};
+use lending::{lending, thin};
 use meters::{AverageFlowMeter, Metered, Reception};
 use quantities::Time;
 
@@ -17,55 +18,56 @@ use quantities::Time;
 pub fn switch_lent(meter: &mut AverageFlowMeter, on: bool, time: Time) -> u32
     ensures { (result ≡ (switched_of meter.old on time).number) × (meter.new ≡ (switched_of meter.old on time).meter) }
 {
-    let was = *meter;
-    let answer = was.switch(on, time);
-    *meter = answer.meter;
-    answer.number
+    thin(
+        meter,
+        on,
+        time,
+        |m: AverageFlowMeter, on: bool, time: Time| m.switch(on, time),
+    )
 }
 
 // Counts a packet at a time.
 pub fn record_lent(meter: &mut AverageFlowMeter, packet: Reception, time: Time) -> u32
     ensures { (result ≡ (received_of meter.old packet time).number) × (meter.new ≡ (received_of meter.old packet time).meter) }
 {
-    let was = *meter;
-    let answer = was.packet_received(packet, time);
-    *meter = answer.meter;
-    answer.number
+    thin(
+        meter,
+        packet,
+        time,
+        |m: AverageFlowMeter, packet: Reception, time: Time| m.packet_received(packet, time),
+    )
 }
 
 // The same changes of a meter by value, which is lent.
 pub fn switch_lending(meter: AverageFlowMeter, on: bool, time: Time) -> Metered
     ensures { result ≡ switched_of meter on time }
 {
-    let mut lent = meter;
-    let number = switch_lent(&mut lent, on, time);
-    Metered {
-        number,
-        meter: lent,
-    }
+    lending(
+        meter,
+        on,
+        time,
+        |m: &mut AverageFlowMeter, on: bool, time: Time| { switch_lent(m, on, time) },
+    )
 }
 
 pub fn record_lending(meter: AverageFlowMeter, packet: Reception, time: Time) -> Metered
     ensures { result ≡ received_of meter packet time }
 {
-    let mut lent = meter;
-    let number = record_lent(&mut lent, packet, time);
-    Metered {
-        number,
-        meter: lent,
-    }
+    lending(
+        meter,
+        packet,
+        time,
+        |m: &mut AverageFlowMeter, packet: Reception, time: Time| { record_lent(m, packet, time) },
+    )
 }
 
 // The mean of a lent list of flow records.
-pub fn average(list: &[FlowProperties]) -> Mean
+pub fn average(list: &[FlowProperties]) -> Result<FlowProperties, NoMean>
     ensures { told_mean result ≡ average_of list.now }
 {
-    let count = list.len();
     let mut sum = FlowSum::start();
-    let mut i = 0;
-    while i < count {
-        sum = sum.added(list[i]);
-        i += 1;
+    for flow in list {
+        sum = sum.added(*flow)?;
     }
     sum.mean()
 }

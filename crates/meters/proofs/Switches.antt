@@ -1,8 +1,7 @@
 -- The one switch gives what the two switches of the Rust gave, at true and at false. Assumes nothing.
-use Rattle.std.proofs.Common.{Some, None}
+use Rattle.std.proofs.Common.{Option, Some, None}
 use mathlib.Core.Path.{◌≡◌, refl}
 use mathlib.Core.Bool.{Bool, true, false, not, ◌&&◌, beq, cond}
-use mathlib.Core.Option.{Option, none, some}
 use lib.Ieee.{le}
 use Rattle.quantities.specs.declared.time.Time.{Time}
 use Rattle.meters.specs.declared.meter.AverageFlowMeter.{AverageFlowMeter}
@@ -16,7 +15,7 @@ module _ (m : AverageFlowMeter) (t : Time) where
   switched on pass start = cond (pass && not_before start t && not (beq on (is_on start))) (taken (turned m start t)) (unchanged m)
 
   abbrev before : Bool → Option Timer → Metered
-  before pass call = answered m (cond pass call none)
+  before pass call = answered m (cond pass call None)
 
   asked_again : (late : Bool) (x : Metered) → cond (late && false) x (unchanged m) ≡ unchanged m
   asked_again true x = refl
@@ -27,7 +26,7 @@ module _ (m : AverageFlowMeter) (t : Time) where
   on true None = refl
   on true (Some s) = asked_again (le s.0.0 t.0.0) _
 
-  ended : (late : Bool) (timer : Timer) → cond (late && true) (answered m (some timer)) (unchanged m) ≡ answered m (cond late (some timer) none)
+  ended : (late : Bool) (timer : Timer) → cond (late && true) (answered m (Some timer)) (unchanged m) ≡ answered m (cond late (Some timer) None)
   ended true timer = refl
   ended false timer = refl
 

@@ -1,5 +1,5 @@
 -- Document 01, "Meter" and the rows 16 and 18 of "Stops": the average flow meter. Definitions only.
-use Rattle.std.specs.Prelude.{ℕ, ◌+◌, ◌*◌, Bool, true, false, not, ◌&&◌, cond, leb, ltb, Option, Some, None}
+use Rattle.std.specs.Prelude.{ℕ, ◌+◌, ◌*◌, Bool, true, false, not, ◌&&◌, cond, leb, ltb, Option, Some, None, Result, Ok, Err}
 use Rattle.std.specs.Bool.{beq}
 use Rattle.std.specs.Float.{binary64}
 use Rattle.std.specs.Float.Ieee.{mul, le, eq}
@@ -11,8 +11,9 @@ use Rattle.quantities.specs.Units.{span_of, amount_of, as_double, since, span_su
 use Rattle.meters.specs.declared.meter.AverageFlowMeter.{AverageFlowMeter}
 use Rattle.meters.specs.declared.meter.Metered.{Metered}
 use Rattle.meters.specs.declared.meter.Reception.{Reception}
-use Rattle.meters.specs.declared.meter.FlowRead.{FlowRead}
-use Rattle.meters.specs.declared.meter.FlowRead.TheVariants.{Properties, NeverActive, Refused}
+use Rattle.flows.specs.declared.flow.FlowProperties.{FlowProperties}
+use Rattle.meters.specs.declared.meter.FlowReadError.{FlowReadError}
+use Rattle.meters.specs.declared.meter.FlowReadError.TheVariants.{NeverActive, Refused}
 use Rattle.flows.specs.Sums.{summed_of, average_rtt, FlowAnswer, refusal}
 
 -- off, and empty
@@ -122,7 +123,7 @@ read_of m t =
     (cond (ready m t) (record { number = 0; throughput = amount_over_span m.total (enabled_time m t); rtt = average_rtt m.records m.rtt_sum }) (refusal 18))
 
 -- the number and the values of each case of a read's answer
-abbrev pub told_read : FlowRead → FlowAnswer
-told_read (Properties f) = record { number = 0; throughput = f.throughput; rtt = f.rtt }
-told_read NeverActive = refusal 16
-told_read Refused = refusal 18
+abbrev pub told_read : Result FlowProperties FlowReadError → FlowAnswer
+told_read (Ok f) = record { number = 0; throughput = f.throughput; rtt = f.rtt }
+told_read (Err NeverActive) = refusal 16
+told_read (Err Refused) = refusal 18

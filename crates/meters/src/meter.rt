@@ -1,5 +1,5 @@
 ghost use Rattle.std.specs.Prelude.{◌≡◌};
-ghost use Rattle.meters.specs.Meter.{new_meter, start_fit, meter_fit, ready, enabled_time, switched_of, received_of, read_of, told_read};
+ghost use Rattle.meters.specs.Meter.{new_meter, start_fit, meter_fit, ready, enabled_time, switched_of, received_of, unchanged, read_of, told_read};
 
 use flows::FlowProperties;
 use flows::sums::{average_rtt, summed};
@@ -18,8 +18,7 @@ pub struct AverageFlowMeter {
     pub rtt_sum: TimeSpan,
 }
 
-// A packet that was received: its bits, and its round-trip time. One value, so that a record has two
-// parameters beside the meter, as a switch has, and one walk proves both over a lent meter.
+// A packet that was received: its bits, and its round-trip time.
 #[derive(Clone, Copy)]
 pub struct Reception {
     pub data: Information,
@@ -33,13 +32,12 @@ pub struct Metered {
     pub meter: AverageFlowMeter,
 }
 
-// What a read gives.
-#[derive(Clone, Copy)]
-pub enum FlowRead {
-    Properties(FlowProperties),
-    // The enabled time is 0.
+// Why a flow is not read.
+#[derive(Clone, Copy, PartialEq, Eq)]
+pub enum FlowReadError {
+    // The enabled time is 0 (16).
     NeverActive,
-    // The meter or the time is out of range.
+    // The meter or the time is out of range (18).
     Refused,
 }
 
@@ -59,56 +57,30 @@ impl AverageFlowMeter {
 
     // Switches the meter on or off at a time; 18 where it has the state asked for. What it gives is what the
     // Rust's `set_enabled` and `set_disabled` give (specs/Switches).
+    #[tactic(auto, unfolding(crate::specs::Meter::switched_of))]
     pub fn switch(self, on: bool, time: Time) -> Metered
         ensures { result ≡ switched_of self on time }
     {
         if !self.ready(time) {
-            return Metered {
-                number: 18,
-                meter: self,
-            };
+            return self.refused();
         }
-        let total = self.total;
-        let records = self.records;
-        let rtt_sum = self.rtt_sum;
-        let start = self.current_start;
-        match start {
-            None => {
-                if !on {
-                    return Metered {
-                        number: 18,
-                        meter: self,
-                    };
-                }
-                let total_time = self.total_time;
-                let current_start = Some(time);
-                let meter = AverageFlowMeter {
-                    total_time,
-                    current_start,
-                    total,
-                    records,
-                    rtt_sum,
-                };
-                Metered { number: 0, meter }
-            }
-            Some(begin) => {
-                if on {
-                    return Metered {
-                        number: 18,
-                        meter: self,
-                    };
-                }
-                let total_time = self.total_time.add(time.sub(begin));
-                let current_start = None;
-                let meter = AverageFlowMeter {
-                    total_time,
-                    current_start,
-                    total,
-                    records,
-                    rtt_sum,
-                };
-                Metered { number: 0, meter }
-            }
+        match (self.current_start, on) {
+            (None, true) => Metered {
+                number: 0,
+                meter: AverageFlowMeter {
+                    current_start: Some(time),
+                    ..self
+                },
+            },
+            (Some(begin), false) => Metered {
+                number: 0,
+                meter: AverageFlowMeter {
+                    total_time: self.total_time + (time - begin),
+                    current_start: None,
+                    ..self
+                },
+            },
+            _ => self.refused(),
         }
     }
 
@@ -116,121 +88,91 @@ impl AverageFlowMeter {
     pub fn packet_received(self, packet: Reception, time: Time) -> Metered
         ensures { result ≡ received_of self packet time }
     {
-        let data = packet.data;
-        let rtt = packet.rtt;
-        if !self.ready(time) {
-            return Metered {
-                number: 18,
-                meter: self,
-            };
+        if !self.ready(time) || !in_range(0.0, 2199023255552.0, packet.rtt.0) {
+            return self.refused();
         }
-        if !in_range(0.0, 2199023255552.0, rtt.0) {
-            return Metered {
-                number: 18,
-                meter: self,
-            };
+        let bits = packet.data.0;
+        if bits < 1 || bits > 16777216 || self.records >= 16777216 {
+            return self.refused();
         }
-        if data.0 < 1 {
-            return Metered {
-                number: 18,
-                meter: self,
-            };
+        Metered {
+            number: 0,
+            meter: AverageFlowMeter {
+                total: self.total + packet.data,
+                records: self.records + 1,
+                rtt_sum: TimeSpan(summed(self.records, self.rtt_sum.0, packet.rtt.0)),
+                ..self
+            },
         }
-        if data.0 > 16777216 {
-            return Metered {
-                number: 18,
-                meter: self,
-            };
+    }
+
+    // The meter as it was, with 18.
+    fn refused(self) -> Metered
+        ensures { result ≡ unchanged self }
+    {
+        Metered {
+            number: 18,
+            meter: self,
         }
-        let count = self.records;
-        if count >= 16777216 {
-            return Metered {
-                number: 18,
-                meter: self,
-            };
-        }
-        let total_time = self.total_time;
-        let current_start = self.current_start;
-        let total = self.total.add(data);
-        let records = count + 1;
-        let rtt_sum = TimeSpan(summed(count, self.rtt_sum.0, rtt.0));
-        let meter = AverageFlowMeter {
-            total_time,
-            current_start,
-            total,
-            records,
-            rtt_sum,
-        };
-        Metered { number: 0, meter }
     }
 
     // The flow so far, read at a time.
-    pub fn average_properties(self, current_time: Time) -> FlowRead
+    #[tactic(auto, unfolding(crate::specs::Meter::read_of))]
+    pub fn average_properties(self, current_time: Time) -> Result<FlowProperties, FlowReadError>
         ensures { told_read result ≡ read_of self current_time }
     {
         let enabled = self.enabled_time(current_time);
         if enabled.0 == 0.0 {
-            return FlowRead::NeverActive;
+            return Err(FlowReadError::NeverActive);
         }
         if !self.ready(current_time) {
-            return FlowRead::Refused;
+            return Err(FlowReadError::Refused);
         }
-        let throughput = self.total.div_span(enabled);
-        let rtt = average_rtt(self.records, self.rtt_sum);
-        FlowRead::Properties(FlowProperties { throughput, rtt })
+        Ok(FlowProperties {
+            throughput: self.total / enabled,
+            rtt: average_rtt(self.records, self.rtt_sum),
+        })
     }
 
     // Whether what the meter holds is in its ranges.
+    #[tactic(auto, unfolding(crate::specs::Meter::meter_fit))]
     pub(crate) fn fit(self) -> bool
         ensures { result ≡ meter_fit self }
     {
-        let records = self.records;
-        if records > 16777216 {
-            return false;
-        }
-        if self.total.0 > 16777216 * records as u64 {
-            return false;
-        }
-        let start = self.current_start;
-        if !start_fit(start) {
-            return false;
-        }
-        if !in_range(0.0, TimeSpan::MAX.0, self.total_time.0) {
-            return false;
-        }
-        in_range(0.0, records as f64 * 2199023255552.0, self.rtt_sum.0)
+        self.records <= 16777216
+            && self.total.0 <= 16777216 * self.records as u64
+            && start_fit(self.current_start)
+            && in_range(0.0, TimeSpan::MAX.0, self.total_time.0)
+            && in_range(0.0, self.records as f64 * 2199023255552.0, self.rtt_sum.0)
     }
 
     // Whether the meter is fit, and the time is in its range and not before the meter's start.
+    #[tactic(auto, unfolding(crate::specs::Meter::ready))]
     fn ready(self, time: Time) -> bool
         ensures { result ≡ ready self time }
     {
-        if !self.fit() {
+        if !self.fit() || !in_range(0.0, 2199023255552.0, time.0.0) {
             return false;
         }
-        if !in_range(0.0, 2199023255552.0, time.0.0) {
-            return false;
-        }
-        let start = self.current_start;
-        match start {
+        match self.current_start {
             None => true,
             Some(begin) => begin.0.0 <= time.0.0,
         }
     }
 
     // The enabled time so far.
+    #[tactic(auto, unfolding(crate::specs::Meter::enabled_time))]
     fn enabled_time(self, time: Time) -> TimeSpan
         ensures { result ≡ enabled_time self time }
     {
-        let total_time = self.total_time;
-        let start = self.current_start;
-        match start {
-            None => total_time.add(TimeSpan(0.0)),
-            Some(begin) => total_time.add(time.sub(begin)),
+        match self.current_start {
+            None => self.total_time + TimeSpan::ZERO,
+            Some(begin) => self.total_time + (time - begin),
         }
     }
 }
 
+#[tactic(auto, unfolding(crate::specs::Meter::start_fit))]
 fn start_fit(start: Option<Time>) -> bool
     ensures { result ≡ start_fit start }
 {

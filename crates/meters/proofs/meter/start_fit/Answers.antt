@@ -1,16 +1,9 @@
--- Each arm rewrites by its case. Assumes nothing.
-use Rattle.meters.specs.Meter.{start_fit}
+-- The literals are opened. Assumes nothing.
+use Rattle.std.proofs.Common.{rules}
 use lib.Ieee.{of_bits}
+use Rattle.meters.specs.Meter.{start_fit}
 use Rattle.meters.proofs.meter.start_fit.Goals as goal
-
-pub returns-in-None : goal.returns-in-None
-unfolding start_fit of_bits
-returns-in-None c = rw c.in-None.is
 
 pub returns-in-Some : goal.returns-in-Some
 unfolding start_fit of_bits
-returns-in-Some c =
-    rw (
-      c.in_range.ensures,
-      c.in-Some.is,
-    )
+returns-in-Some c = search rules
