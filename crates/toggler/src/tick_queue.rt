@@ -1,6 +1,7 @@
 ghost use Rattle.std.specs.Prelude.{◌≡◌};
 ghost use Rattle.toggler.specs.Queue.{sooner, pick_of};
 
+use quantities::Time;
 
 // A part's place in the queue: its time, or nothing.
 #[derive(Clone, Copy)]
@@ -16,35 +17,33 @@ pub struct Picked {
 }
 
 // Whether the first time comes before the second. Nothing comes last.
+#[tactic(auto, unfolding(crate::specs::Queue::sooner))]
 pub fn is_sooner(a: Option<Time>, b: Option<Time>) -> bool
     ensures { result ≡ sooner a b }
 {
-    match a {
-        None => false,
-        Some(t) => match b {
-            None => true,
-            Some(u) => t.0.0 < u.0.0,
-        },
+    match (a, b) {
+        (None, _) => false,
+        (Some(_), None) => true,
+        (Some(t), Some(u)) => t < u,
     }
 }
 
 // The queue's least time, and the lowest part that has it.
+#[tactic(auto, unfolding(crate::specs::Queue::pick_of))]
 pub fn pick(queue: [Queued; 35]) -> Picked
     ensures { result ≡ pick_of queue }
 {
-    let mut best = None;
-    let mut part = 0;
-    let mut i = 0;
-    while i < 35 {
-        let q = queue[i];
-        let time = q.time;
-        if is_sooner(time, best) {
-            best = time;
-            part = i;
-            i += 1;
-        } else {
-            i += 1;
+    let mut best = Picked {
+        time: None,
+        part: 0,
+    };
+    for (i, q) in queue.iter().enumerate() {
+        if is_sooner(q.time, best.time) {
+            best = Picked {
+                time: q.time,
+                part: i,
+            };
         }
     }
-    Picked { time: best, part }
+    best
 }

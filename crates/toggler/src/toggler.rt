@@ -1,7 +1,7 @@
 ghost use Rattle.std.specs.Prelude.{◌≡◌, cond};
 ghost use Rattle.toggler.specs.Toggler.{new_toggler, toggle_of};
 
-use draws::{ContinuousDistribution, PositiveSample, Rng};
+use draws::{ContinuousDistribution, Rng};
 use quantities::{Time, TimeSpan};
 
 // Whether its sender is on, when that changes next, and its generator.
@@ -20,34 +20,32 @@ pub struct Toggled {
 }
 
 // A new toggler: off, with its first toggle drawn. 8 where the draw is spent.
+#[tactic(auto, unfolding(crate::specs::Toggler::new_toggler))]
 pub fn create(rng: Rng, off: ContinuousDistribution) -> Toggled
     ensures { result ≡ new_toggler rng off }
 {
+    let toggler = Toggler {
+        enabled: false,
+        next_toggle: Time::SIM_START,
+        rng,
+    };
     let drawn = off.sample_positive(rng);
-    match drawn {
-        PositiveSample::Positive(span, rng) => {
-            let next_toggle = Time::from_sim_start(TimeSpan(span));
-            let toggler = Toggler {
-                enabled: false,
-                next_toggle,
-                rng,
-            };
-            Toggled { number: 0, toggler }
-        }
-        PositiveSample::Spent(_) => {
-            let next_toggle = Time(TimeSpan(0.0));
-            let toggler = Toggler {
-                enabled: false,
-                next_toggle,
-                rng,
-            };
-            Toggled { number: 8, toggler }
-        }
+    let Some(span) = drawn.value else {
+        return Toggled { number: 8, toggler };
+    };
+    Toggled {
+        number: 0,
+        toggler: Toggler {
+            next_toggle: Time::from_sim_start(TimeSpan(span)),
+            rng: drawn.rng,
+            ..toggler
+        },
     }
 }
 
 impl Toggler {
     // Changes the state, and draws the length of the state entered.
+    #[tactic(auto, unfolding(crate::specs::Toggler::toggle_of))]
     pub fn toggle(
         self,
         clock: Time,
@@ -57,30 +55,21 @@ impl Toggler {
         ensures { result ≡ toggle_of self clock on off }
     {
         let enabled = !self.enabled;
-        let drawn = length_of(enabled, on, off).sample_positive(self.rng);
-        let PositiveSample::Positive(span, rng) = drawn else {
+        let length = if enabled { on } else { off };
+        let drawn = length.sample_positive(self.rng);
+        let Some(span) = drawn.value else {
             return Toggled {
                 number: 8,
                 toggler: self,
             };
         };
-        let next_toggle = clock.add(TimeSpan(span));
-        let toggler = Toggler {
-            enabled,
-            next_toggle,
-            rng,
-        };
-        Toggled { number: 0, toggler }
+        Toggled {
+            number: 0,
+            toggler: Toggler {
+                enabled,
+                next_toggle: clock + TimeSpan(span),
+                rng: drawn.rng,
+            },
+        }
     }
-}
-
-// The distribution of the length of a state.
-fn length_of(
-    enabled: bool,
-    on: ContinuousDistribution,
-    off: ContinuousDistribution,
-) -> ContinuousDistribution
-    ensures { result ≡ cond enabled on off }
-{
-    if enabled { on } else { off }
 }

@@ -1,12 +1,8 @@
--- The invariant: the pick over what is left, from the best so far, is the whole pick. The measure is what is left. Assumes nothing.
-use mathlib.Core.Path.{◌≡◌}
-use Prim.Native.Nat.{◌-◌}
+-- The invariant: the pick over what is left, from the best so far, is the whole pick. Assumes nothing.
+use Rattle.std.proofs.Common.{◌≡◌}
 use lib.ListN.{drop}
 use Rattle.toggler.specs.Queue.{pick_from, pick_of}
 use Rattle.toggler.proofs.tick_queue.pick.Given as goal
 
 abbrev pub invariant-loop-i : goal.invariant-loop-i
-invariant-loop-i l = pick_from (drop l.i l.queue) l.i (record { time = l.best; part = l.part }) ≡ pick_of l.queue
-
-abbrev pub decreases-loop-i : goal.decreases-loop-i
-decreases-loop-i l = 35 - l.i
+invariant-loop-i l = pick_from (drop l.i l.fn.queue) l.i l.best ≡ pick_of l.fn.queue
