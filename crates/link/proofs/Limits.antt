@@ -1,9 +1,7 @@
 -- Tests of the link in terms of numbers. Assumes nothing.
 use mathlib.Core.Path.{◌≡◌, refl, sym, subst}
 use mathlib.Core.Bool.{Bool, true, false}
-use Prim.Native.Nat.{ℕ, ◌+◌, ◌-◌, ◌≤◌, ◌<◌}
-use native.Mathlib.Omega.{arith}
-use borrow.Author.Tests.{le-leb, lt-leb, leb-true, leb-false}
+use Prim.Native.Nat.{◌≤◌}
 use Rattle.std.proofs.Common.{Some, None, ◌⊎◌, ⊎_elim, Less, Equal, Greater, is_le, cond}
 use Rattle.std.proofs.lemmas.Float.{le_of_lt, le_of_eq, lt-or-eq}
 use Rattle.std.specs.Ordering.{float_partial_cmp, partial_le, is_some_and}
