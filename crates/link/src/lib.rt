@@ -8,8 +8,8 @@ pub mod packet;
 pub mod ring;
 
 pub use link::{
-    Arrival, Delivered, Left, Line, LineValues, Transmitted, next_tick, receive,
-    try_deliver, try_transmit,
+    Arrival, Delivered, Left, Line, LineValues, Transmitted, next_tick, receive, try_deliver,
+    try_transmit,
 };
 pub use packet::{Packet, Transit, Waiting};
 pub use ring::Ring;

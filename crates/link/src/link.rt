@@ -7,15 +7,8 @@ use draws::Rng;
 use quantities::time::{earliest_opt, latest};
 use quantities::{Information, InformationRate, Time, TimeSpan};
 
-// The most bits that may wait, if there is a limit.
-#[derive(Clone, Copy)]
-pub enum Limit {
-    None,
-    Bits(u64),
-}
-
 // A line's own values: its delay in seconds, its rate in bits per second, its loss, and the most bits
-// that may wait.
+// that may wait, if there is a limit.
 #[derive(Clone, Copy)]
 pub struct LineValues {
     pub delay: f64,
@@ -43,7 +36,7 @@ pub struct Arrival {
     pub line: Line,
 }
 
-// The packet that leaves the line, if any: lost, or handed over.
+// The packet that leaves the line, if any: lost, or handed over. Three cases, so no Option.
 #[derive(Clone, Copy)]
 pub enum Left {
     Nobody,
@@ -57,14 +50,7 @@ pub struct Delivered {
     pub line: Line,
 }
 
-// The packet that starts, if any.
-#[derive(Clone, Copy)]
-pub enum Begun {
-    Nobody,
-    Starts(Transit),
-}
-
-// What a start does: the number (0 or 13), the packet that starts, and the line after it.
+// What a start does: the number (0 or 13), the packet that starts, if any, and the line after it.
 #[derive(Clone, Copy)]
 pub struct Transmitted {
     pub number: u32,
@@ -73,64 +59,52 @@ pub struct Transmitted {
 }
 
 // Whether a packet is admitted while so many bits wait.
+#[tactic(auto, unfolding(crate::specs::Link::admits))]
 pub(crate) fn admits_bits(limit: Option<u64>, waiting: Information, bits: Information) -> bool
     ensures { result ≡ admits limit waiting bits }
 {
     match limit {
         None => true,
-        Some(most) => {
-            if bits.0 > most {
-                return false;
-            }
-            waiting.0 <= most - bits.0
-        }
+        Some(most) => bits.0 <= most && waiting.0 <= most - bits.0,
     }
 }
 
 // A packet arrives.
 //
 // A helper for the crates above, and no entry point: the caller shows that the waiting bits fit.
+#[tactic(auto, unfolding(crate::specs::Link::receive_of))]
 pub fn receive(limit: Option<u64>, line: Line, bits: Information) -> Arrival
     requires { line.buffer_contains.0 + bits.0 < 2 ^ 64 }
     ensures { result ≡ receive_of limit line bits }
 {
-    let contains = line.buffer_contains;
-    let waiting = line.waiting;
-    if !admits_bits(limit, contains, bits) {
+    if !admits_bits(limit, line.buffer_contains, bits) {
         return Arrival {
             number: 0,
             admitted: false,
             line,
         };
     }
-    if waiting.count >= 512 {
+    if line.waiting.count >= 512 {
         return Arrival {
             number: 12,
             admitted: false,
             line,
         };
     }
-    let earliest_transmit = line.earliest_transmit;
-    let buffer_contains = contains.add(bits);
-    let on_line = line.on_line;
-    let rng = line.rng;
-    let waiting = waiting.push();
-    let line = Line {
-        earliest_transmit,
-        buffer_contains,
-        waiting,
-        on_line,
-        rng,
-    };
     Arrival {
         number: 0,
         admitted: true,
-        line,
+        line: Line {
+            buffer_contains: line.buffer_contains + bits,
+            waiting: line.waiting.push(),
+            ..line
+        },
     }
 }
 
 // The link's own next time. `due` is the first due time, and is read only where a packet is on the
 // line.
+#[tactic(auto, unfolding(crate::specs::Link::next_tick))]
 pub fn next_tick(line: Line, clock: Time, due: Time) -> Option<Time>
     ensures { result ≡ next_tick line clock due }
 {
@@ -138,30 +112,29 @@ pub fn next_tick(line: Line, clock: Time, due: Time) -> Option<Time>
 }
 
 // When the first waiting packet may start, if one waits.
+#[tactic(auto, unfolding(crate::specs::Link::next_transmit))]
 fn next_transmit(line: Line, clock: Time) -> Option<Time>
     ensures { result ≡ next_transmit line clock }
 {
-    let waiting = line.waiting;
-    if waiting.count == 0 {
-        return None;
+    if line.waiting.count > 0 {
+        Some(latest(clock, line.earliest_transmit))
+    } else {
+        None
     }
-    Some(latest(clock, line.earliest_transmit))
 }
 
 // When the first packet on the line is due, if one is there.
+#[tactic(auto, unfolding(crate::specs::Link::next_deliver))]
 fn next_deliver(line: Line, due: Time) -> Option<Time>
     ensures { result ≡ next_deliver line due }
 {
-    let on_line = line.on_line;
-    if on_line.count == 0 {
-        return None;
-    }
-    Some(due)
+    (line.on_line.count > 0).then_some(due)
 }
 
 // The first packet on the line leaves, if it is due. A sample is drawn whenever one leaves.
 //
 // A helper for the crates above, and no entry point: the caller shows that the ring is in range.
+#[tactic(auto, using(crate::proofs::Limits::due_count), unfolding(crate::specs::Link::try_deliver))]
 pub fn try_deliver(line: Line, clock: Time, front: Transit, loss: f64) -> Delivered
     requires { line.on_line.start < 512 }
     ensures { result ≡ try_deliver line clock front loss }
@@ -172,50 +145,42 @@ pub fn try_deliver(line: Line, clock: Time, front: Transit, loss: f64) -> Delive
             line,
         };
     }
-    let earliest_transmit = line.earliest_transmit;
-    let buffer_contains = line.buffer_contains;
-    let waiting = line.waiting;
-    let on_line = line.on_line.pop();
     let drawn = draws::distribution::sample_unit(line.rng);
-    let rng = drawn.rng;
-    let packet = front.packet;
-    let line = Line {
-        earliest_transmit,
-        buffer_contains,
-        waiting,
-        on_line,
-        rng,
-    };
-    if drawn.value < loss {
-        Delivered {
-            left: Left::Lost(packet),
-            line,
-        }
+    let left = if drawn.value < loss {
+        Left::Lost(front.packet)
     } else {
-        Delivered {
-            left: Left::Out(packet),
-            line,
-        }
+        Left::Out(front.packet)
+    };
+    Delivered {
+        left,
+        line: Line {
+            on_line: line.on_line.pop(),
+            rng: drawn.rng,
+            ..line
+        },
     }
 }
 
 // Whether a packet is on the line, and the first is due.
+#[tactic(auto, unfolding(crate::specs::Link::is_due))]
 fn is_due(line: Line, clock: Time, front: Transit) -> bool
     ensures { result ≡ is_due line clock front }
 {
-    1 <= line.on_line.count && front.due.0.0 == clock.0.0
+    line.on_line.count > 0 && front.due == clock
 }
 
 // Whether the line is free, and a packet waits.
+#[tactic(auto, using(crate::proofs::Limits::no_later), unfolding(crate::specs::Link::is_free))]
 fn is_free(line: Line, clock: Time) -> bool
     ensures { result ≡ is_free line clock }
 {
-    line.earliest_transmit.0.0 <= clock.0.0 && 1 <= line.waiting.count
+    line.earliest_transmit <= clock && line.waiting.count > 0
 }
 
 // The first waiting packet starts, if the line is free. What it carries is taken off the waiting bits.
 //
 // A helper for the crates above, and no entry point: the caller shows that the ring is in range.
+#[tactic(auto, using(crate::proofs::Limits::free_count), unfolding(crate::specs::Link::try_transmit))]
 pub fn try_transmit(
     line: Line,
     clock: Time,
@@ -226,8 +191,6 @@ pub fn try_transmit(
     requires { line.waiting.start < 512 }
     ensures { result ≡ try_transmit line clock first delay packet_rate }
 {
-    let waiting = line.waiting;
-    let on_line = line.on_line;
     if !is_free(line, clock) {
         return Transmitted {
             number: 0,
@@ -235,32 +198,26 @@ pub fn try_transmit(
             line,
         };
     }
-    if on_line.count >= 512 {
+    if line.on_line.count >= 512 {
         return Transmitted {
             number: 13,
             begun: None,
             line,
         };
     }
-    let bits = first.bits;
-    let earliest_transmit = clock.add(bits.div_rate(packet_rate));
-    let due = clock.add(delay);
-    let buffer_contains = less(line.buffer_contains, bits);
-    let rng = line.rng;
-    let waiting = waiting.pop();
-    let on_line = on_line.push();
-    let line = Line {
-        earliest_transmit,
-        buffer_contains,
-        waiting,
-        on_line,
-        rng,
-    };
-    let packet = first.packet;
     Transmitted {
         number: 0,
-        begun: Some(Transit { packet, due }),
-        line,
+        begun: Some(Transit {
+            packet: first.packet,
+            due: clock + delay,
+        }),
+        line: Line {
+            earliest_transmit: clock + first.bits / packet_rate,
+            buffer_contains: less(line.buffer_contains, first.bits),
+            waiting: line.waiting.pop(),
+            on_line: line.on_line.push(),
+            ..line
+        },
     }
 }
 
@@ -268,8 +225,5 @@ pub fn try_transmit(
 fn less(a: Information, b: Information) -> Information
     ensures { result ≡ less_of a b }
 {
-    if a.0 < b.0 {
-        return Information(0);
-    }
-    a.sub(b)
+    Information(a.0.saturating_sub(b.0))
 }

@@ -29,8 +29,8 @@ impl Ring {
         ensures { result ≡ pushed self }
     {
         Ring {
-            start: self.start,
             count: self.count + 1,
+            ..self
         }
     }
 

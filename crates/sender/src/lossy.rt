@@ -24,6 +24,7 @@ pub struct Enabled {
     pub timer: Option<Time>,
 }
 
+// Off or on: two named states, as in the original's own type, so no Option.
 #[derive(Clone, Copy)]
 pub enum SenderState {
     WaitingForEnable,
@@ -46,7 +47,7 @@ pub struct Sent {
     pub enabled: Enabled,
 }
 
-// How a returned packet is taken.
+// How a returned packet is taken. Three cases, so no Option.
 #[derive(Clone, Copy)]
 pub enum Heard {
     Ignored,
@@ -62,6 +63,7 @@ pub struct Returned {
 
 impl Policy {
     // The window of a sender that is switched on.
+    #[tactic(auto, unfolding(crate::specs::Sender::first_window))]
     pub(crate) fn initial_cwnd(self) -> u32
         ensures { result ≡ first_window self }
     {
@@ -73,37 +75,37 @@ impl Policy {
     }
 
     // The window after a send.
+    #[tactic(auto, unfolding(crate::specs::Sender::window_sent))]
     pub(crate) fn packet_sent(self, cwnd: u32) -> u32
         ensures { result ≡ window_sent self cwnd }
     {
         match self {
             Policy::Held(w) => w,
-            Policy::Grown(_, _) => cwnd,
-            Policy::Timed(_, _) => cwnd,
+            Policy::Grown(_, _) | Policy::Timed(_, _) => cwnd,
         }
     }
 
     // The window after a packet is counted.
+    #[tactic(auto, unfolding(crate::specs::Sender::window_counted))]
     pub(crate) fn ack_received(self, cwnd: u32) -> u32
         ensures { result ≡ window_counted self cwnd }
     {
         match self {
             Policy::Held(w) => w,
-            Policy::Grown(_, most) => grown(cwnd, most),
-            Policy::Timed(most, _) => grown(cwnd, most),
+            Policy::Grown(_, most) | Policy::Timed(most, _) => grown(cwnd, most),
         }
     }
 
     // The timer after a send: set by the first send since the sender was switched on. One that is held is
     // written anew, since a copy of the enum is slower.
+    #[tactic(auto, unfolding(crate::specs::Sender::timer_sent))]
     pub(crate) fn timer_sent(self, timer: Option<Time>, clock: Time) -> Option<Time>
         ensures { result ≡ timer_sent self timer clock }
     {
         match timer {
             Some(t) => Some(t),
             None => match self {
-                Policy::Held(_) => None,
-                Policy::Grown(_, _) => None,
+                Policy::Held(_) | Policy::Grown(_, _) => None,
                 Policy::Timed(_, gap) => Some(timer_in(clock, gap)),
             },
         }
@@ -114,22 +116,21 @@ impl Policy {
 fn timer_in(clock: Time, gap: f64) -> Time
     ensures { result ≡ timer_in clock gap }
 {
-    clock.add(TimeSpan(gap))
+    clock + TimeSpan(gap)
 }
 
 // One more, and at most `most`.
 fn grown(cwnd: u32, most: u32) -> u32
     ensures { result ≡ min (cwnd + 1) most }
 {
-    if cwnd < most { cwnd + 1 } else { most }
+    cwnd.saturating_add(1).min(most)
 }
 
 // Half, rounded down, and at least 1.
 fn halved(cwnd: u32) -> u32
     ensures { result ≡ max 1 (cwnd / 2) }
 {
-    let half = cwnd / 2;
-    if half < 1 { 1 } else { half }
+    (cwnd / 2).max(1)
 }
 
 impl Enabled {
@@ -137,187 +138,137 @@ impl Enabled {
     pub(crate) fn may_send(self, packets_sent: u32) -> bool
         ensures { result ≡ may_send packets_sent self }
     {
-        (packets_sent as u64) < (self.greatest_ack as u64) + (self.cwnd as u64)
+        u64::from(packets_sent) < u64::from(self.greatest_ack) + u64::from(self.cwnd)
     }
 
     // Whether the timer is due at the clock.
+    #[tactic(auto, unfolding(crate::specs::Sender::timer_due))]
     pub fn timer_due(self, clock: Time) -> bool
         ensures { result ≡ timer_due self clock }
     {
-        let timer = self.timer;
-        match timer {
-            None => false,
-            Some(t) => t.0.0 == clock.0.0,
-        }
+        self.timer == Some(clock)
     }
 
     // The timer goes.
+    #[tactic(auto, unfolding(crate::specs::Sender::tick_timer))]
     pub fn tick_timer(self, policy: Policy, clock: Time) -> Enabled
         ensures { result ≡ tick_timer policy self clock }
     {
-        let started = self.started;
-        let greatest_ack = self.greatest_ack;
         match policy {
-            Policy::Held(_) => Enabled {
-                started,
-                greatest_ack,
-                cwnd: self.cwnd,
+            Policy::Held(_) | Policy::Grown(_, _) => Enabled {
                 timer: None,
+                ..self
             },
-            Policy::Grown(_, _) => Enabled {
-                started,
-                greatest_ack,
-                cwnd: self.cwnd,
-                timer: None,
+            Policy::Timed(_, gap) => Enabled {
+                cwnd: halved(self.cwnd),
+                timer: Some(timer_in(clock, gap)),
+                ..self
             },
-            Policy::Timed(_, gap) => {
-                let at = timer_in(clock, gap);
-                Enabled {
-                    started,
-                    greatest_ack,
-                    cwnd: halved(self.cwnd),
-                    timer: Some(at),
-                }
-            }
         }
     }
 
     // One packet is sent: its sequence number is one above those sent.
+    #[tactic(auto, unfolding(crate::specs::Sender::tick_send))]
     pub fn tick_send(self, packets_sent: u32, policy: Policy, clock: Time, sender: u32) -> Sent
         ensures { result ≡ tick_send packets_sent policy self clock sender }
     {
-        let none = Packet {
-            sender,
-            seq: 0,
-            sent_time: clock,
-        };
         if packets_sent >= 16777216 {
             return Sent {
                 number: 11,
-                packet: none,
+                packet: Packet {
+                    sender,
+                    seq: 0,
+                    sent_time: clock,
+                },
                 packets_sent,
                 enabled: self,
             };
         }
-        let held = self.timer;
-        let timer = policy.timer_sent(held, clock);
-        let started = self.started;
-        let greatest_ack = self.greatest_ack;
-        let cwnd = policy.packet_sent(self.cwnd);
-        let packet = Packet {
-            sender,
-            seq: packets_sent + 1,
-            sent_time: clock,
-        };
-        let enabled = Enabled {
-            started,
-            greatest_ack,
-            cwnd,
-            timer,
-        };
         Sent {
             number: 0,
-            packet,
+            packet: Packet {
+                sender,
+                seq: packets_sent + 1,
+                sent_time: clock,
+            },
             packets_sent: packets_sent + 1,
-            enabled,
+            enabled: Enabled {
+                cwnd: policy.packet_sent(self.cwnd),
+                timer: policy.timer_sent(self.timer, clock),
+                ..self
+            },
         }
     }
 }
 
 impl LossySender {
+    #[tactic(auto, unfolding(crate::specs::Sender::enabled_of))]
     pub fn enable(self, policy: Policy, time: Time) -> LossySender
         ensures { result ≡ enabled_of policy self time }
     {
-        let packets_sent = self.packets_sent;
-        let rng = self.rng;
-        let cwnd = policy.initial_cwnd();
-        let enabled = Enabled {
-            started: time,
-            greatest_ack: packets_sent,
-            cwnd,
-            timer: None,
-        };
         LossySender {
-            packets_sent,
-            state: SenderState::Enabled(enabled),
-            rng,
+            state: SenderState::Enabled(Enabled {
+                started: time,
+                greatest_ack: self.packets_sent,
+                cwnd: policy.initial_cwnd(),
+                timer: None,
+            }),
+            ..self
         }
     }
 
+    #[tactic(auto, unfolding(crate::specs::Sender::disabled_of))]
     pub fn disable(self) -> LossySender
         ensures { result ≡ disabled_of self }
     {
-        let packets_sent = self.packets_sent;
-        let rng = self.rng;
         LossySender {
-            packets_sent,
             state: SenderState::WaitingForEnable,
-            rng,
+            ..self
         }
     }
 
     // The sender's own next time.
+    #[tactic(auto, unfolding(crate::specs::Sender::sender_next))]
     pub fn next_tick(self, clock: Time) -> Option<Time>
         ensures { result ≡ sender_next self clock }
     {
-        let state = self.state;
-        match state {
+        match self.state {
             SenderState::WaitingForEnable => None,
             SenderState::Enabled(enabled) => {
-                let timer = enabled.timer;
-                if enabled.may_send(self.packets_sent) {
-                    return earliest_opt(Some(clock), timer);
-                }
-                earliest_opt(None, timer)
+                let send = enabled.may_send(self.packets_sent).then_some(clock);
+                earliest_opt(send, enabled.timer)
             }
         }
     }
 
     // A packet comes back.
+    #[tactic(auto, unfolding(crate::specs::Sender::returned_of))]
     pub fn receive_packet(self, policy: Policy, packet: Packet) -> Returned
         ensures { result ≡ returned_of policy self packet }
     {
-        let packets_sent = self.packets_sent;
-        let rng = self.rng;
-        let state = self.state;
-        match state {
-            SenderState::WaitingForEnable => Returned {
+        let SenderState::Enabled(enabled) = self.state else {
+            return Returned {
                 heard: Heard::Ignored,
                 sender: self,
+            };
+        };
+        if packet.sent_time < enabled.started {
+            return Returned {
+                heard: Heard::Old,
+                sender: self,
+            };
+        }
+        let enabled = Enabled {
+            greatest_ack: enabled.greatest_ack.max(packet.seq),
+            cwnd: policy.ack_received(enabled.cwnd),
+            ..enabled
+        };
+        Returned {
+            heard: Heard::Counted,
+            sender: LossySender {
+                state: SenderState::Enabled(enabled),
+                ..self
             },
-            SenderState::Enabled(enabled) => {
-                let started = enabled.started;
-                if packet.sent_time.0.0 < started.0.0 {
-                    return Returned {
-                        heard: Heard::Old,
-                        sender: self,
-                    };
-                }
-                let timer = enabled.timer;
-                let cwnd = policy.ack_received(enabled.cwnd);
-                let greatest_ack = greater(enabled.greatest_ack, packet.seq);
-                let after = Enabled {
-                    started,
-                    greatest_ack,
-                    cwnd,
-                    timer,
-                };
-                let sender = LossySender {
-                    packets_sent,
-                    state: SenderState::Enabled(after),
-                    rng,
-                };
-                Returned {
-                    heard: Heard::Counted,
-                    sender,
-                }
-            }
         }
     }
-}
-
-fn greater(a: u32, b: u32) -> u32
-    ensures { result ≡ max a b }
-{
-    if a < b { b } else { a }
 }
