@@ -19,7 +19,6 @@ use Rattle.toggler.specs.Queue.{queue_places, no_queued}
 use Rattle.remy.specs.declared.network.RemyNetwork.{RemyNetwork}
 use Rattle.remy.specs.declared.simulation.Simulation.{Simulation}
 use Rattle.remy.specs.declared.simulation.Mark.{Mark}
-use Rattle.remy.specs.declared.simulation.Mark.TheVariants as Mark
 use Rattle.remy.specs.declared.simulation.TickRecord.{TickRecord}
 use Rattle.remy.specs.State.{line_at, meter_at, with_line, with_queued}
 use Rattle.remy.specs.Build.{build_of}
@@ -66,7 +65,7 @@ abbrev pub line : Float → ℕ → Mark → Option (ℕ × ℕ) → Option (ℕ
 line time part mark packet started = record { time = time_of time; part = part; mark = mark; packet = packet; started = started }
 
 abbrev pub packet : ℕ → Option (ℕ × ℕ)
-packet m = Some (0 , m)
+packet m = Some (0, m)
 
 abbrev pub none : Option (ℕ × ℕ)
 none = None
@@ -179,10 +178,10 @@ sizes-history : history (ticks 9) two_sizes
     ∷ line (power 0) 0 Mark.None none (packet 1)
     ∷ line (power 0) 1 Mark.Sent (packet 2) none
     ∷ line (power 0) 4 Mark.Enabled none none
-    ∷ line (power 0) 3 Mark.Sent (Some (1 , 1)) none
-    ∷ line (power 0) 3 Mark.Sent (Some (1 , 2)) none
+    ∷ line (power 0) 3 Mark.Sent (Some (1, 1)) none
+    ∷ line (power 0) 3 Mark.Sent (Some (1, 2)) none
     ∷ line (power 1) 0 Mark.None none (packet 2)
-    ∷ line three 0 Mark.Counted (packet 1) (Some (1 , 1))
+    ∷ line three 0 Mark.Counted (packet 1) (Some (1, 1))
     ∷ []
 unfolding ticking
 sizes-history = refl

@@ -21,17 +21,14 @@ use Rattle.link.specs.declared.packet.Transit.{Transit}
 use Rattle.link.specs.declared.link.Line.{Line}
 use Rattle.link.specs.declared.link.Arrival.{Arrival}
 use Rattle.link.specs.declared.link.Left.{Left}
-use Rattle.link.specs.declared.link.Left.TheVariants as Left
 use Rattle.link.specs.declared.link.Delivered.{Delivered}
 use Rattle.link.specs.declared.link.Transmitted.{Transmitted}
 use Rattle.sender.specs.declared.lossy.Policy.{Policy}
-use Rattle.sender.specs.declared.lossy.Policy.TheVariants as Policy
 use Rattle.sender.specs.declared.lossy.Enabled.{Enabled}
 use Rattle.sender.specs.declared.lossy.SenderState.{SenderState}
 use Rattle.sender.specs.declared.lossy.SenderState.TheVariants as State
 use Rattle.sender.specs.declared.lossy.LossySender.{LossySender}
 use Rattle.sender.specs.declared.lossy.Heard.{Heard}
-use Rattle.sender.specs.declared.lossy.Heard.TheVariants as Heard
 use Rattle.sender.specs.declared.lossy.Returned.{Returned}
 use Rattle.sender.specs.declared.lossy.Sent.{Sent}
 use Rattle.toggler.specs.declared.toggler.Toggler.{Toggler}

@@ -40,7 +40,7 @@ map_take f (suc n) (x ∷ xs) = ap (λ l. f x ∷ l) (map_take f n xs)
 entry_append : (b : Bool) (t : Time) (name : Option (ℕ × ℕ)) (xs ys : List Entry) → entry_if b t name (xs ++ ys) ≡ entry_if b t name xs ++ ys
 entry_append false t name xs ys = refl
 entry_append true t None xs ys = refl
-entry_append true t (Some (i , m)) xs ys = refl
+entry_append true t (Some (i, m)) xs ys = refl
 
 pub entries-append : (f : Mark → Bool) (h k : List TickRecord) → entries f (h ++ k) ≡ entries f h ++ entries f k
 entries-append f [] k = refl
@@ -66,9 +66,9 @@ module _ (f : PacketId → ℕ) where
       → total f (ids (entry_if (a || b) t name zs)) ≡ total f (ids (entry_if a t name xs)) + total f (ids (entry_if b t name ys))
   entry_both true true t name xs ys zs apart e = absurd (apart refl refl)
   entry_both true false t None xs ys zs apart e = e
-  entry_both true false t (Some (i , m)) xs ys zs apart e = omega (arith, e)
+  entry_both true false t (Some (i, m)) xs ys zs apart e = omega (arith, e)
   entry_both false true t None xs ys zs apart e = e
-  entry_both false true t (Some (i , m)) xs ys zs apart e = omega (arith, e)
+  entry_both false true t (Some (i, m)) xs ys zs apart e = omega (arith, e)
   entry_both false false t name xs ys zs apart e = e
 
   pub entries-either : (a b : Mark → Bool) → ((m : Mark) → a m ≡ true → b m ≡ true → ⊥) → (h : List TickRecord)

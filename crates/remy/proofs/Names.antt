@@ -18,7 +18,6 @@ use Rattle.draws.specs.Draws.{unit_of}
 use Rattle.link.specs.declared.packet.Packet.{Packet}
 use Rattle.link.specs.declared.link.Line.{Line}
 use Rattle.link.specs.declared.link.Left.{Left}
-use Rattle.link.specs.declared.link.Left.TheVariants as Left
 use Rattle.link.specs.declared.link.Delivered.{Delivered}
 use Rattle.link.specs.declared.link.Transmitted.{Transmitted}
 use Rattle.sender.specs.declared.lossy.Enabled.{Enabled}
@@ -26,7 +25,6 @@ use Rattle.sender.specs.declared.lossy.SenderState.{SenderState}
 use Rattle.sender.specs.declared.lossy.SenderState.TheVariants as State
 use Rattle.sender.specs.declared.lossy.Sent.{Sent}
 use Rattle.sender.specs.declared.lossy.Heard.{Heard}
-use Rattle.sender.specs.declared.lossy.Heard.TheVariants as Heard
 use Rattle.toggler.specs.declared.toggler.Toggled.{Toggled}
 use Rattle.link.specs.Ring.{places}
 use Rattle.link.specs.Link.{is_due, departed, receive_of, try_deliver, is_free, not_started, try_transmit}
@@ -36,7 +34,6 @@ use Rattle.link.proofs.Limits.{due_count, free_count}
 use Rattle.remy.specs.declared.network.RemyNetwork.{RemyNetwork}
 use Rattle.remy.specs.declared.simulation.Simulation.{Simulation}
 use Rattle.remy.specs.declared.simulation.Mark.{Mark}
-use Rattle.remy.specs.declared.simulation.Mark.TheVariants as Mark
 use Rattle.remy.specs.declared.simulation.TickRecord.{TickRecord}
 use Rattle.remy.specs.declared.simulation.Ticked.{Ticked}
 use Rattle.remy.specs.State.{line_count, values_of, Role, link, bouncer, sender, toggler, nobody, sender_part, role_in, line_at, sender_at, toggler_at, first_of, front_of, packet_bits, with_sender}
@@ -278,6 +275,11 @@ same_part j i (yes same) = eq-eqb (sender_part j) (sender_part i) (omega arith) 
 same_part j i (no other) = ne_eqb (sender_part j) (sender_part i) (λ (e : sender_part j ≡ sender_part i). other (omega arith)) ∙ sym (ne_eqb j i other)
 
 module _ (n : RemyNetwork) where
+  -- the sender of a name, and another number where there is none
+  abbrev the_sender : Option (ℕ × ℕ) → ℕ → ℕ
+  the_sender None j = j
+  the_sender (Some (i, m)) j = i
+
   -- a record with any of those marks names a packet
   names_any : (r : TickRecord) → WellNamed n r → (is_send r.mark || is_leave r.mark) ≡ true → NamesPacket n r.packet
   names_any r w e = ⊎_elim (λ (a : is_send r.mark ≡ true). (w.sent a).0) (λ (a : is_leave r.mark ≡ true). (w.left a).0) (either (is_send r.mark) (is_leave r.mark) e)
@@ -286,15 +288,14 @@ module _ (n : RemyNetwork) where
   one_mark : (b : Bool) (t : Time) (name : Option (ℕ × ℕ)) (es : List Entry) (c : ℕ) → (b ≡ true → NamesPacket n name) → c ≡ length es → cond b 1 0 + c ≡ length (entry_if b t name es)
   one_mark false t name es c p e = omega (arith, e)
   one_mark true t None es c p e = let clash = (p refl).same in let no : ◌≡◌ {A = ℕ} 0 1 = cc in absurd (omega arith)
-  one_mark true t (Some (i , m)) es c p e = omega (arith, e)
+  one_mark true t (Some (i, m)) es c p e = omega (arith, e)
 
   one-own : (b : Bool) (part : ℕ) (t : Time) (name : Option (ℕ × ℕ)) (es : List Entry) (c i : ℕ) → (b ≡ true → (p : NamesPacket n name) × (part ≡ sender_part p.sender))
       → c ≡ total (of_sender i) (ids es) → cond (b && eqb part (sender_part i)) 1 0 + c ≡ total (of_sender i) (ids (entry_if b t name es))
   one-own false part t name es c i p e = omega (arith, e)
   one-own true part t None es c i p e = let clash = (p refl).0.same in let no : ◌≡◌ {A = ℕ} 0 1 = cc in absurd (omega arith)
-  one-own true part t (Some (j , m)) es c i p e =
-      let same = (p refl).0.same in
-      let own : j ≡ (p refl).0.sender = cc in
+  one-own true part t (Some (j, m)) es c i p e =
+      let own : j ≡ (p refl).0.sender = ap (λ (x : Option (ℕ × ℕ)). the_sender x j) (p refl).0.same in
       let its : part ≡ sender_part j = (p refl).1 ∙ ap sender_part (sym own) in
       rw (its, same_part j i (ℕ_discrete j i), e)
 

@@ -20,7 +20,6 @@ use Rattle.link.specs.declared.packet.Transit.{Transit}
 use Rattle.link.specs.declared.link.Line.{Line}
 use Rattle.link.specs.declared.link.Arrival.{Arrival}
 use Rattle.link.specs.declared.link.Left.{Left}
-use Rattle.link.specs.declared.link.Left.TheVariants as Left
 use Rattle.link.specs.declared.link.Delivered.{Delivered}
 use Rattle.link.specs.declared.link.Transmitted.{Transmitted}
 use Rattle.sender.specs.declared.lossy.SenderState.{SenderState}
@@ -36,7 +35,6 @@ use Rattle.remy.specs.HeldTimes.{Holds}
 use Rattle.remy.specs.declared.network.RemyNetwork.{RemyNetwork}
 use Rattle.remy.specs.declared.simulation.Simulation.{Simulation}
 use Rattle.remy.specs.declared.simulation.Mark.{Mark}
-use Rattle.remy.specs.declared.simulation.Mark.TheVariants as Mark
 use Rattle.remy.specs.declared.simulation.TickRecord.{TickRecord}
 use Rattle.remy.specs.State.{has_back, line_count, values_of, Role, link, bouncer, sender, no_waiting, no_transit, line_at, sender_at, meter_at, first_of, front_of, packet_bits, with_line, with_on_line, with_sender}
 use Rattle.remy.specs.Queue.{part_of, requeue, picked}

@@ -42,7 +42,7 @@ returned = (build_of network 1).simulation
 
 -- packet 1:m
 abbrev other : ℕ → Option (ℕ × ℕ)
-other m = Some (1 , m)
+other m = Some (1, m)
 
 -- the second link is part 6
 returned-history : history (ticks 14) returned

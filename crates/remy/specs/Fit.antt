@@ -14,7 +14,6 @@ use Rattle.sender.specs.declared.lossy.Policy.{Policy}
 use Rattle.sender.specs.declared.lossy.Policy.TheVariants.{Held, Grown, Timed}
 use Rattle.sender.specs.declared.lossy.SenderState.{SenderState}
 use Rattle.sender.specs.declared.lossy.SenderState.TheVariants as State
-use Rattle.sender.specs.declared.lossy.Enabled.{Enabled}
 use Rattle.link.specs.Ring.{places}
 use Rattle.toggler.specs.Queue.{queue_places}
 use Rattle.remy.specs.declared.simulation.Simulation.{Simulation}

@@ -5,7 +5,6 @@ use Rattle.link.specs.declared.packet.Packet.{Packet}
 use Rattle.remy.specs.declared.network.RemyNetwork.{RemyNetwork}
 use Rattle.remy.specs.declared.simulation.Simulation.{Simulation}
 use Rattle.remy.specs.declared.simulation.Mark.{Mark}
-use Rattle.remy.specs.declared.simulation.Mark.TheVariants as Mark
 use Rattle.remy.specs.declared.simulation.TickRecord.{TickRecord}
 use Rattle.remy.specs.declared.simulation.Ticked.{Ticked}
 use Rattle.remy.specs.Build.{build_of}
@@ -69,7 +68,7 @@ times es = map (λ e. e.time) es
 abbrev pub entry_if : Bool → Time → Option (ℕ × ℕ) → List Entry → List Entry
 entry_if false t name es = es
 entry_if true t None es = es
-entry_if true t (Some (i , m)) es = record { time = t; packet = record { sender = i; seq = m } } ∷ es
+entry_if true t (Some (i, m)) es = record { time = t; packet = record { sender = i; seq = m } } ∷ es
 
 -- the packets that the records with certain marks are about, each at its record's time
 abbrev pub entries : (Mark → Bool) → List TickRecord → List Entry

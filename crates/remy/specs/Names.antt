@@ -23,7 +23,7 @@ is_leave m = is_l m || (is_n m || (is_p m || (is_q m || comes_back m)))
 pub record NamesPacket (n : RemyNetwork) (name : Option (ℕ × ℕ)) : Type 0 where
   pub sender : ℕ
   pub seq : ℕ
-  pub same : name ≡ Some (sender , seq)
+  pub same : name ≡ Some (sender, seq)
   pub inside : sender < n.senders
 
 -- a line of the network whose link is this part

@@ -9,7 +9,6 @@ use Rattle.link.specs.declared.packet.Packet.{Packet}
 use Rattle.link.specs.declared.packet.Waiting.{Waiting}
 use Rattle.link.specs.declared.link.Arrival.{Arrival}
 use Rattle.link.specs.declared.link.Left.{Left}
-use Rattle.link.specs.declared.link.Left.TheVariants as Left
 use Rattle.link.specs.declared.link.Delivered.{Delivered}
 use Rattle.link.specs.declared.link.Transmitted.{Transmitted}
 use Rattle.sender.specs.declared.lossy.Enabled.{Enabled}
@@ -18,7 +17,6 @@ use Rattle.sender.specs.declared.lossy.SenderState.TheVariants as State
 use Rattle.sender.specs.declared.lossy.LossySender.{LossySender}
 use Rattle.sender.specs.declared.lossy.Sent.{Sent}
 use Rattle.sender.specs.declared.lossy.Heard.{Heard}
-use Rattle.sender.specs.declared.lossy.Heard.TheVariants as Heard
 use Rattle.sender.specs.declared.lossy.Returned.{Returned}
 use Rattle.toggler.specs.declared.toggler.Toggled.{Toggled}
 use Rattle.link.specs.Ring.{slot_of, place_after}
@@ -27,7 +25,6 @@ use Rattle.sender.specs.Sender.{timer_due, tick_timer, tick_send, enabled_of, di
 use Rattle.toggler.specs.Toggler.{toggle_of}
 use Rattle.remy.specs.declared.simulation.Simulation.{Simulation}
 use Rattle.remy.specs.declared.simulation.Mark.{Mark}
-use Rattle.remy.specs.declared.simulation.Mark.TheVariants as Mark
 use Rattle.remy.specs.declared.simulation.TickRecord.{TickRecord}
 use Rattle.remy.specs.declared.simulation.Ticked.{Ticked}
 use Rattle.remy.specs.declared.network.RemyNetwork.{RemyNetwork}
@@ -38,7 +35,7 @@ use Rattle.remy.specs.Fit.{fit}
 -- ---- records
 
 abbrev pub named : Packet → Option (ℕ × ℕ)
-named p = Some (p.sender , p.seq)
+named p = Some (p.sender, p.seq)
 
 -- an empty record: time 0, part 0, no marks
 abbrev pub empty_record : TickRecord

@@ -7,7 +7,5 @@
 pub mod network;
 pub mod simulation;
 
-pub use network::{RemyNetwork};
-pub use simulation::{
-    Built, Head, Mark, Noted, Ran, Recorded, Simulation, TickRecord, Ticked,
-};
+pub use network::RemyNetwork;
+pub use simulation::{Built, Head, Mark, Noted, Ran, Recorded, Simulation, TickRecord, Ticked};

@@ -2,14 +2,7 @@ use draws::ContinuousDistribution;
 use link::LineValues;
 use sender::Policy;
 
-// The values of a return line, if there is one.
-#[derive(Clone, Copy)]
-pub enum ReturnLine {
-    None,
-    Line(LineValues),
-}
-
-// The network of a description: the line's values and those of a return line, the bits of each
+// The network of a description: the line's values and those of a return line, if any, the bits of each
 // sender's packets, how many senders there are, how long they are on and off, and how they choose
 // their windows. Any values can be held; a build tests them. The bits of places from the number of
 // senders on are read by nobody.

@@ -5,14 +5,7 @@ use quantities::{Information, Time};
 use sender::LossySender;
 use toggler::{Queued, Toggler};
 
-// The part whose turn is next, if any.
-#[derive(Clone, Copy)]
-pub enum Next {
-    None,
-    Part(usize),
-}
-
-// The clock, and the next part.
+// The clock, and the part whose turn is next, if any.
 #[derive(Clone, Copy)]
 pub struct Head {
     pub clock: Time,
@@ -54,15 +47,8 @@ pub enum Mark {
     LostBack,
 }
 
-// A packet by its sender and its sequence number, or none.
-#[derive(Clone, Copy)]
-pub enum Name {
-    None,
-    Packet(u32, u32),
-}
-
 // A tick's record: the clock, the part, the mark, the packet that the mark is about, and the packet
-// that started.
+// that started. A packet is named by its sender and its sequence number.
 #[derive(Clone, Copy)]
 pub struct TickRecord {
     pub time: Time,
