@@ -1,8 +1,8 @@
 -- Digits by a table, and decimals in pieces. Assumes nothing.
-use Prim.Native.Nat.{ℕ, zero, suc, ◌+◌, ◌/◌, ◌%◌, ◌≤◌, ◌<◌}
+use Prim.Native.Nat.{ℕ, zero, suc, ◌+◌, ◌*◌, ◌/◌, ◌%◌, ◌^◌, ◌≤◌, ◌<◌}
 use mathlib.Core.List.{List, [], ◌∷◌, ◌++◌, append_assoc}
-use mathlib.Core.Path.{◌≡◌, sym, ap, ◌∙◌}
-use native.Mathlib.Nat.{add-zero, zero-add, not-suc-le-zero, le_of_suc-le-suc}
+use mathlib.Core.Path.{◌≡◌, refl, sym, ap, ◌∙◌}
+use native.Mathlib.Nat.{pow-zero, pow-suc, add-zero, zero-add, not-suc-le-zero, le_of_suc-le-suc}
 use native.Mathlib.Omega.{arith}
 use lib.ListN.{get_or}
 use Rattle.notation.specs.Notation.{digit_byte, digits_of, decimal_of}
@@ -51,3 +51,16 @@ decimal_hundreds n h e =
     (decimal_high n (omega arith)
     ∙ ap (λ (s : List ℕ). s ++ (digit_byte (n % 10) ∷ [])) (decimal_high (n / 10) (omega arith))
     ∙ append_assoc (decimal_of (n / 10 / 10)) (digit_byte (n / 10 % 10) ∷ []) (digit_byte (n % 10) ∷ [])))
+
+-- as many digits as the highest power of ten in a number tells
+pub decimal_power : (k n : ℕ) → 10 ^ k ≤ n → n < 10 * 10 ^ k → digits_of 10 (suc k) n ≡ decimal_of n
+unfolding digits_of
+decimal_power zero n h l =
+    let small : n < 10 = omega (arith, l) in
+    let e : n % 10 ≡ n = omega arith in
+    rw e (sym (decimal_low n small))
+decimal_power (suc k) n h l =
+    let more : 10 ^ k * 10 ≤ n = rw pow-suc at h in
+    let less : n < 10 * (10 ^ k * 10) = rw pow-suc at l in
+    ap (λ (s : List ℕ). s ++ (digit_byte (n % 10) ∷ [])) (decimal_power k (n / 10) (omega (arith, more)) (omega (arith, less)))
+    ∙ sym (decimal_high n (omega (arith, more, less)))
