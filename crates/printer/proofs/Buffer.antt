@@ -1,17 +1,17 @@
 -- Bytes put into a buffer one after the other. Assumes nothing.
 use Prim.Native.Nat.{ℕ, suc, ◌+◌, ◌-◌, ◌/◌, ◌%◌, ◌^◌, ◌≤◌, ◌<◌}
 use mathlib.Core.List.{List, [], ◌∷◌, ◌++◌, append_assoc, append-nil}
-use mathlib.Core.Path.{◌≡◌, refl, sym, ap, ◌∙◌}
+use mathlib.Core.Path.{◌≡◌, sym, ap, ◌∙◌}
 use native.Mathlib.Numerals.{add-one}
 use native.Mathlib.Omega.{arith}
 use lib.ListN.{length, take, drop, get_or, set, length-append, length-drop}
 use lib.Seq.{paste, paste-zero, take-length, take-suc, set_split, set_at, take_at, drop-drop, length-take-le, drop-append-add}
 use borrow.Author.Tests.{le-leb, lt-leb}
 use Rattle.notation.specs.Notation.{digit_byte, digits_of, decimal_of}
-use Rattle.printer.specs.Printing.{written, Wrote, PutIs}
+use Rattle.printer.specs.Printing.{written, PutIs}
 use Rattle.printer.specs.Pens.{HasRoom, Puts}
 use Rattle.printer.specs.declared.Pen.{Pen}
-use Rattle.std.specs.Prelude.{Option, Some, None}
+use Rattle.std.specs.Prelude.{Some, None}
 use Rattle.notation.proofs.Written.{decimal-length_le}
 
 -- nothing, a copy, one byte, and one byte in front
@@ -76,7 +76,6 @@ puts_as {p = p} e h f = record {
 -- runs of bytes, one put after the other: a ▸ b of two, and r ▸▸ s of two rows
 infix 40 ◌▸◌
 infixl 30 ◌▸▸◌
-
 pub data Row : ℕ → List ℕ → Pen → Pen → Type 0 where
   one : {m : ℕ} {s : List ℕ} {p q : Pen} → Puts m s p q → Row m s p q
   ◌▸◌ : {m k : ℕ} {s t : List ℕ} {p q r : Pen} → Puts m s p q → Puts k t q r → Row (m + k) (s ++ t) p r

@@ -61,7 +61,7 @@ impl<'a> Pen<'a> {
         requires { HasRoom 16 self.old }
         ensures { Puts 16 (hex_of v) self.old self.new }
     {
-        self.digits(16, 16, v)
+        self.digits(16, 16, v);
     }
 
     // Two decimal digits.

@@ -1,7 +1,6 @@
 -- `printer::Pen::short` meets its contract: a digit, two digits, or the hundreds and two digits.
 -- Assumes nothing.
 use native.Mathlib.Omega.{arith}
-use mathlib.Core.Path.{◌∙◌}
 use Rattle.printer.proofs.Buffer.{puts_as, puts_row, ◌▸◌}
 use Rattle.printer.proofs.Digits.{one-digit, decimal-two, decimal_hundreds}
 use Rattle.printer.proofs.Pen.short.Goals as goal
