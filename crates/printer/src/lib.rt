@@ -7,7 +7,8 @@ ghost use Rattle.notation.specs.Notation.{digits_of, hex_of, decimal_of};
 ghost use Rattle.printer.specs.Printing.{PutIs, packet_text, measured_text, record_text, stop_text, refused_text, flow_text};
 ghost use Rattle.printer.specs.Pens.{HasRoom, Puts};
 
-// A lent buffer, and where its next byte is put.
+// A lent buffer, and where its next byte is put. What puts is inlined always: so the pen stays in registers, and a line takes no
+// longer than by functions of a buffer and a position.
 #[derive(Drop)]
 struct Pen<'a> {
     out: &'a mut [u8],
@@ -24,6 +25,7 @@ impl<'a> Pen<'a> {
     }
 
     // One byte.
+    #[inline(always)]
     fn byte(&mut self, b: u8)
         requires { HasRoom 1 self.old }
         ensures { Puts 1 (b ∷ []) self.old self.new }
@@ -33,6 +35,7 @@ impl<'a> Pen<'a> {
     }
 
     // A word.
+    #[inline(always)]
     fn word(&mut self, w: &[u8])
         requires { HasRoom (length w.now) self.old }
         ensures { Puts (length w.now) w.now self.old self.new }
@@ -43,6 +46,7 @@ impl<'a> Pen<'a> {
     }
 
     // The last k digits of n, the lowest first. Each call has a literal base, so that the compiler leaves no division.
+    #[inline(always)]
     fn digits(&mut self, base: u64, k: usize, n: u64)
         requires { (0 < base) × (base ≤ 16) × HasRoom k self.old }
         ensures { Puts k (digits_of base k n) self.old self.new }
@@ -57,6 +61,7 @@ impl<'a> Pen<'a> {
     }
 
     // A double.
+    #[inline(always)]
     fn hex(&mut self, v: u64)
         requires { HasRoom 16 self.old }
         ensures { Puts 16 (hex_of v) self.old self.new }
@@ -65,6 +70,7 @@ impl<'a> Pen<'a> {
     }
 
     // Two decimal digits.
+    #[inline(always)]
     fn two(&mut self, n: u64)
         requires { (n < 100) × HasRoom 2 self.old }
         ensures { Puts 2 (digits_of 10 2 n) self.old self.new }
@@ -74,6 +80,7 @@ impl<'a> Pen<'a> {
     }
 
     // A whole number of at most 4 digits.
+    #[inline(always)]
     fn short(&mut self, n: u64)
         requires { (n < 10000) × HasRoom 4 self.old }
         ensures { Puts 4 (decimal_of n) self.old self.new }
@@ -92,6 +99,7 @@ impl<'a> Pen<'a> {
     }
 
     // A whole number, of at most 20 digits: one of 5 to 8 digits in three pieces, a longer one by the loop.
+    #[inline(always)]
     fn number(&mut self, n: u64)
         requires { HasRoom 20 self.old }
         ensures { Puts 20 (decimal_of n) self.old self.new }
@@ -109,6 +117,7 @@ impl<'a> Pen<'a> {
     }
 
     // A packet by its sender and sequence. The sequence is put where 20 digits have room, though it has at most 10.
+    #[inline(always)]
     fn packet(&mut self, packet: Option<(u32, u32)>)
         requires { HasRoom 31 self.old }
         ensures { Puts 21 (packet_text packet) self.old self.new }
@@ -124,6 +133,7 @@ impl<'a> Pen<'a> {
     }
 
     // A rate or an RTT, a double by its bits.
+    #[inline(always)]
     fn measured(&mut self, value: Option<u64>)
         requires { HasRoom 16 self.old }
         ensures { Puts 16 (measured_text value) self.old self.new }
