@@ -62,6 +62,7 @@ impl<'a> Pen<'a> {
 
     // A double.
     #[inline(always)]
+    #[tactic(auto, unfolding(notation::specs::Notation::hex_of))]
     fn hex(&mut self, v: u64)
         requires { HasRoom 16 self.old }
         ensures { Puts 16 (hex_of v) self.old self.new }

@@ -1,6 +1,7 @@
 -- `printer::Pen::word` meets its contract: one copy.
 -- Assumes nothing.
-use mathlib.Core.Path.{refl, ap, ◌∙◌}
+use Prim.Native.Nat.{◌+◌, ◌-◌}
+use mathlib.Core.Path.{◌≡◌, refl, sym, ap, ◌∙◌}
 use native.Mathlib.Omega.{arith}
 use lib.ListN.{length}
 use Rattle.std.proofs.lemmas.Slice.{put_mid-paste}
@@ -11,7 +12,8 @@ pub returns : goal.returns
 returns c =
     let p = c.args.self.now in
     let w = c.args.w.now in
-    let e = put_mid-paste _ _ _ _ w _ c.copy_from_slice.ensures.after (omega arith) refl ∙ written_copy p.out.now p.at w in
+    let count : p.at + length w - p.at ≡ length w = omega arith in
+    let e = put_mid-paste p.at (p.at + length w - p.at) p.out.now c.copy_from_slice.new.self w (length w) c.copy_from_slice.ensures.after (sym count) refl ∙ written_copy p.out.now p.at w in
     record {
       wrote = record { small = omega arith; place = omega arith; bytes = e };
       long = ap length e ∙ written_length p.out.now p.at w c.requires;
