@@ -33,12 +33,6 @@ two_digits n h =
     let e : n / 10 % 10 ≡ n / 10 = omega arith in
     sym (rw (e, low_digit (n / 10) (omega arith), low_digit (n % 10) (omega arith)))
 
-pub decimal-two : (n : ℕ) → 10 ≤ n → n < 100 → digits_of 10 2 n ≡ decimal_of n
-unfolding digits_of
-decimal-two n h l =
-    let e : n / 10 % 10 ≡ n / 10 = omega arith in
-    rw e (sym (decimal_high n h ∙ ap (λ (s : List ℕ). s ++ (digit_byte (n % 10) ∷ [])) (decimal_low (n / 10) (omega arith))))
-
 -- the decimal of the hundreds, and the two digits of the rest
 pub decimal_hundreds : {s : List ℕ} (n : ℕ) → 100 ≤ n → s ≡ decimal_of (n / 100) → s ++ digits_of 10 2 (n % 100) ≡ decimal_of n
 unfolding digits_of
