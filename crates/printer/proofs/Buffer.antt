@@ -9,7 +9,7 @@ use lib.Seq.{paste, paste-zero, take-length, take-suc, set_split, set_at, take_a
 use borrow.Author.Tests.{le-leb, lt-leb}
 use Rattle.notation.specs.Notation.{digit_byte, digits_of, decimal_of}
 use Rattle.printer.specs.Printing.{written, PutIs}
-use Rattle.printer.specs.Pens.{HasRoom, Puts}
+use Rattle.printer.specs.Pens.{HasRoom, PenWrote}
 use Rattle.printer.specs.declared.Pen.{Pen}
 use Rattle.std.specs.Prelude.{Some, None}
 use Rattle.notation.proofs.Written.{decimal-length_le}
@@ -62,8 +62,8 @@ written_then d at s t h =
     ∙ ap (λ (x : List ℕ). x ++ drop (at + length (s ++ t)) d) (append_assoc (take at d) s t)
 
 -- the same bytes, by another name or under a larger bound
-pub puts_as : {m k : ℕ} {s t : List ℕ} {p q : Pen} → s ≡ t → m ≤ k → Puts m s p q → Puts k t p q
-puts_as {p = p} e h f = record {
+pub wrote_as : {m k : ℕ} {s t : List ℕ} {p q : Pen} → s ≡ t → m ≤ k → PenWrote m s p q → PenWrote k t p q
+wrote_as {p = p} e h f = record {
   wrote = record {
     small = omega (arith, ap length e, f.wrote.small);
     place = omega (arith, ap length e, f.wrote.place);
@@ -77,12 +77,12 @@ puts_as {p = p} e h f = record {
 infix 40 ◌▸◌
 infixl 30 ◌▸▸◌
 pub data Row : ℕ → List ℕ → Pen → Pen → Type 0 where
-  one : {m : ℕ} {s : List ℕ} {p q : Pen} → Puts m s p q → Row m s p q
-  ◌▸◌ : {m k : ℕ} {s t : List ℕ} {p q r : Pen} → Puts m s p q → Puts k t q r → Row (m + k) (s ++ t) p r
+  one : {m : ℕ} {s : List ℕ} {p q : Pen} → PenWrote m s p q → Row m s p q
+  ◌▸◌ : {m k : ℕ} {s t : List ℕ} {p q r : Pen} → PenWrote m s p q → PenWrote k t q r → Row (m + k) (s ++ t) p r
   ◌▸▸◌ : {m k : ℕ} {s t : List ℕ} {p q r : Pen} → Row m s p q → Row k t q r → Row (m + k) (s ++ t) p r
 
-puts_then : {m k : ℕ} {s t : List ℕ} {p q r : Pen} → Puts m s p q → Puts k t q r → HasRoom m p → Puts (m + k) (s ++ t) p r
-puts_then {s = s} {t = t} {p = p} {q = q} f g h = record {
+wrote_then : {m k : ℕ} {s t : List ℕ} {p q r : Pen} → PenWrote m s p q → PenWrote k t q r → HasRoom m p → PenWrote (m + k) (s ++ t) p r
+wrote_then {s = s} {t = t} {p = p} {q = q} f g h = record {
   wrote = record {
     small = omega (arith, length-append s t, f.wrote.small, g.wrote.small);
     place = omega (arith, length-append s t, f.wrote.place, g.wrote.place);
@@ -95,15 +95,15 @@ puts_then {s = s} {t = t} {p = p} {q = q} f g h = record {
   same = g.same ∙ f.same;
 }
 
-row : {m : ℕ} {s : List ℕ} {p q : Pen} → Row m s p q → HasRoom m p → Puts m s p q
+row : {m : ℕ} {s : List ℕ} {p q : Pen} → Row m s p q → HasRoom m p → PenWrote m s p q
 row (one f) h = f
-row (f ▸ g) h = puts_then f g (omega arith)
+row (f ▸ g) h = wrote_then f g (omega arith)
 row (a ▸▸ b) h =
     let f = row a (omega arith) in
-    puts_then f (row b (omega (arith, f.wrote.place, f.wrote.small, f.long))) (omega arith)
+    wrote_then f (row b (omega (arith, f.wrote.place, f.wrote.small, f.long))) (omega arith)
 
-pub puts_row : {m k : ℕ} {s t : List ℕ} {p q : Pen} → Row m s p q → s ≡ t → m ≤ k → HasRoom m p → Puts k t p q
-puts_row r e l h = puts_as e l (row r h)
+pub wrote_row : {m k : ℕ} {s t : List ℕ} {p q : Pen} → Row m s p q → s ≡ t → m ≤ k → HasRoom m p → PenWrote k t p q
+wrote_row r e l h = wrote_as e l (row r h)
 
 -- the k digits of n from the lowest on: those put stand from at + i, and the first i are still to come, as the digits of rest
 pub record Lower (b k n : ℕ) (d : List ℕ) (at i rest : ℕ) (out : List ℕ) : Type 0 where
@@ -140,8 +140,8 @@ lower_all {b} {d = d} {at = at} {i = i} {rest = rest} p h =
     p.bytes ∙ ap (λ (k : ℕ). written d k p.put) place ∙ ap (written d at) (ap (λ (j : ℕ). digits_of b j rest ++ p.put) (sym zero_left) ∙ p.whole)
 
 -- a whole number of 32 bits has at most 10 digits
-pub puts_short : (n : ℕ) {m : ℕ} {p q : Pen} → n < 10 ^ 10 → Puts m (decimal_of n) p q → Puts 10 (decimal_of n) p q
-puts_short n h f = record {
+pub wrote_short : (n : ℕ) {m : ℕ} {p q : Pen} → n < 10 ^ 10 → PenWrote m (decimal_of n) p q → PenWrote 10 (decimal_of n) p q
+wrote_short n h f = record {
   wrote = record { small = decimal-length_le 9 n h; place = f.wrote.place; bytes = f.wrote.bytes };
   long = f.long;
   same = f.same;
@@ -154,5 +154,5 @@ no_room line d at h = record { answer = rw (lt-leb _ _ h); bytes = rw (lt-leb _ 
 pub line_put : {most : ℕ} {s line after : List ℕ} {p q : Pen} → HasRoom 128 p → Row most s p q → most ≤ 128 → s ≡ line → after ≡ q.out.now
     → PutIs line p.out.now p.at (Some q.at) after
 line_put {p = p} h r m e final =
-    let f = puts_row r e m (omega arith) in
+    let f = wrote_row r e m (omega arith) in
     record { answer = rw (le-leb _ _ h) (ap Some f.wrote.place); bytes = rw (le-leb _ _ h) (final ∙ f.wrote.bytes); short = λ room. f.wrote.small }

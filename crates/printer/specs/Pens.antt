@@ -8,7 +8,7 @@ abbrev pub HasRoom : ℕ → Pen → Type 0
 HasRoom k p = p.at + k ≤ length p.out.now
 
 -- the bytes s, no more than most, were put at the pen's place, which moved past them; the buffer is the same one
-pub record Puts (most : ℕ) (s : List ℕ) (old new : Pen) : Type 0 where
+pub record PenWrote (most : ℕ) (s : List ℕ) (old new : Pen) : Type 0 where
   pub wrote : Wrote most s old.out.now old.at new.at new.out.now
   pub long : length new.out.now ≡ length old.out.now
   pub same : new.out.ghost_name ≡ old.out.ghost_name

@@ -5,7 +5,7 @@ ghost use Rattle.std.specs.Prelude.{◌+◌, ◌≤◌, ◌<◌, ◌≡◌, [], 
 ghost use Rattle.std.specs.Option.{IfSome, IfNone};
 ghost use Rattle.notation.specs.Notation.{digits_of, hex_of, decimal_of};
 ghost use Rattle.printer.specs.Printing.{PutIs, packet_text, measured_text, record_text, stop_text, refused_text, flow_text};
-ghost use Rattle.printer.specs.Pens.{HasRoom, Puts};
+ghost use Rattle.printer.specs.Pens.{HasRoom, PenWrote};
 
 // A lent buffer, and where its next byte is put. What puts is inlined always: so the pen stays in registers, and a line takes no
 // longer than by functions of a buffer and a position.
@@ -28,7 +28,7 @@ impl<'a> Pen<'a> {
     #[inline(always)]
     fn byte(&mut self, b: u8)
         requires { HasRoom 1 self.old }
-        ensures { Puts 1 (b ∷ []) self.old self.new }
+        ensures { PenWrote 1 (b ∷ []) self.old self.new }
     {
         self.out[self.at] = b;
         self.at += 1;
@@ -38,7 +38,7 @@ impl<'a> Pen<'a> {
     #[inline(always)]
     fn word(&mut self, w: &[u8])
         requires { HasRoom (length w.now) self.old }
-        ensures { Puts (length w.now) w.now self.old self.new }
+        ensures { PenWrote (length w.now) w.now self.old self.new }
     {
         let end = self.at + w.len();
         self.out[self.at..end].copy_from_slice(w);
@@ -49,7 +49,7 @@ impl<'a> Pen<'a> {
     #[inline(always)]
     fn digits(&mut self, base: u64, k: usize, n: u64)
         requires { (0 < base) × (base ≤ 16) × HasRoom k self.old }
-        ensures { Puts k (digits_of base k n) self.old self.new }
+        ensures { PenWrote k (digits_of base k n) self.old self.new }
     {
         let digits = b"0123456789abcdef";
         let mut rest = n;
@@ -65,7 +65,7 @@ impl<'a> Pen<'a> {
     #[tactic(auto, unfolding(notation::specs::Notation::hex_of))]
     fn hex(&mut self, v: u64)
         requires { HasRoom 16 self.old }
-        ensures { Puts 16 (hex_of v) self.old self.new }
+        ensures { PenWrote 16 (hex_of v) self.old self.new }
     {
         self.digits(16, 16, v);
     }
@@ -74,7 +74,7 @@ impl<'a> Pen<'a> {
     #[inline(always)]
     fn two(&mut self, n: u64)
         requires { (n < 100) × HasRoom 2 self.old }
-        ensures { Puts 2 (digits_of 10 2 n) self.old self.new }
+        ensures { PenWrote 2 (digits_of 10 2 n) self.old self.new }
     {
         self.byte(b'0' + (n / 10) as u8);
         self.byte(b'0' + (n % 10) as u8);
@@ -84,7 +84,7 @@ impl<'a> Pen<'a> {
     #[inline(always)]
     fn short(&mut self, n: u64)
         requires { (n < 10000) × HasRoom 4 self.old }
-        ensures { Puts 4 (decimal_of n) self.old self.new }
+        ensures { PenWrote 4 (decimal_of n) self.old self.new }
     {
         if n < 10 {
             self.byte(b'0' + n as u8);
@@ -103,7 +103,7 @@ impl<'a> Pen<'a> {
     #[inline(always)]
     fn number(&mut self, n: u64)
         requires { HasRoom 20 self.old }
-        ensures { Puts 20 (decimal_of n) self.old self.new }
+        ensures { PenWrote 20 (decimal_of n) self.old self.new }
     {
         if n < 10000 {
             self.short(n);
@@ -121,7 +121,7 @@ impl<'a> Pen<'a> {
     #[inline(always)]
     fn packet(&mut self, packet: Option<(u32, u32)>)
         requires { HasRoom 31 self.old }
-        ensures { Puts 21 (packet_text packet) self.old self.new }
+        ensures { PenWrote 21 (packet_text packet) self.old self.new }
     {
         match packet {
             None => self.byte(b'-'),
@@ -137,7 +137,7 @@ impl<'a> Pen<'a> {
     #[inline(always)]
     fn measured(&mut self, value: Option<u64>)
         requires { HasRoom 16 self.old }
-        ensures { Puts 16 (measured_text value) self.old self.new }
+        ensures { PenWrote 16 (measured_text value) self.old self.new }
     {
         match value {
             None => self.byte(b'-'),
