@@ -1,10 +1,11 @@
 -- The lines of a run (document 01, "The text program"), from a record and from a simulation. Definitions only.
 -- A double is written by its bits, and a NaN by 7ff8000000000000.
-use Rattle.std.specs.Prelude.{ℕ, zero, suc, ◌+◌, ◌-◌, ◌≡◌, cond, List, [], ◌∷◌, ◌++◌, eqb, ltb, Option, Result, Some, None, Ok, Err}
+use Rattle.std.specs.Prelude.{ℕ, zero, suc, ◌+◌, ◌-◌, ◌≡◌, cond, List, [], ◌∷◌, ◌++◌, Option, Some, None, Result, Ok, Err, eqb, ltb}
 use Rattle.std.specs.Float.{binary64}
 use Rattle.std.specs.Float.Ieee.{to_bits}
-use Rattle.quantities.specs.declared.time_span.TimeSpan.{TimeSpan}
 use Rattle.quantities.specs.declared.time.Time.{Time}
+use Rattle.quantities.specs.declared.time_span.TimeSpan.{TimeSpan}
+use Rattle.flows.specs.declared.flow.NoPacketsAcked.{NoPacketsAcked}
 use Rattle.meters.specs.declared.meter.AverageFlowMeter.{AverageFlowMeter}
 use Rattle.flows.specs.Sums.{FlowAnswer}
 use Rattle.meters.specs.Meter.{read_of}
@@ -15,35 +16,26 @@ use Rattle.remy.specs.State.{sender_at, meter_at}
 use Rattle.remy.specs.Tick.{tick_of}
 use Rattle.remy.specs.Run.{run_of}
 use Rattle.remy.specs.History.{letter_of}
-use Rattle.printer.specs.declared.Named.{Named}
-use Rattle.printer.specs.declared.Named.TheVariants as Named
-use Rattle.printer.specs.declared.Measured.{Measured}
-use Rattle.printer.specs.declared.Measured.TheVariants as Measured
 use Rattle.printer.specs.Printing.{record_text, stop_text, flow_text}
-
--- a packet by its sender and sequence
-abbrev pub named_of : Option (ℕ × ℕ) → Named
-named_of None = Named.None
-named_of (Some (sender , sequence)) = Named.Packet sender sequence
 
 -- a tick's record: its clock, part, mark by its letter, packet, and the packet started
 unfoldable pub record_line : TickRecord → List ℕ
-record_line r = record_text (to_bits binary64 r.time.0.0) r.part (letter_of r.mark) (named_of r.packet) (named_of r.started)
+record_line r = record_text (to_bits binary64 r.time.0.0) r.part (letter_of r.mark) r.packet r.started
 
 -- `stop` is the last number, `clock` the clock then
 unfoldable pub stop_line : ℕ → Simulation → List ℕ
 stop_line number s = stop_text number (to_bits binary64 s.head.clock.0.0)
 
 -- a flow that is read: `-` for an absent value, both where the read is refused
-abbrev pub rate_measured : FlowAnswer → Measured
-rate_measured a = cond (eqb a.number 0) (Measured.Bits (to_bits binary64 a.throughput.0)) Measured.None
+abbrev pub rate_measured : FlowAnswer → Option ℕ
+rate_measured a = cond (eqb a.number 0) (Some (to_bits binary64 a.throughput.0)) None
 
-abbrev pub span_measured : Result TimeSpan NoPacketsAcked → Measured
-span_measured (Err no_packets_acked) = Measured.None
-span_measured (Ok t) = Measured.Bits (to_bits binary64 t.0)
+abbrev pub span_measured : Result TimeSpan NoPacketsAcked → Option ℕ
+span_measured (Ok t) = Some (to_bits binary64 t.0)
+span_measured (Err _) = None
 
-abbrev pub rtt_measured : FlowAnswer → Measured
-rtt_measured a = cond (eqb a.number 0) (span_measured a.rtt) Measured.None
+abbrev pub rtt_measured : FlowAnswer → Option ℕ
+rtt_measured a = cond (eqb a.number 0) (span_measured a.rtt) None
 
 -- the flow of a sender: sent is its held count, counted its meter's records, and the meter is read at the clock
 unfoldable pub flow_at : ℕ → LossySender → AverageFlowMeter → Time → List ℕ

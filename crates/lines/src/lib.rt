@@ -5,11 +5,11 @@ ghost use Rattle.std.specs.Prelude.{◌≡◌};
 ghost use Rattle.remy.specs.History.{letter_of};
 ghost use Rattle.printer.specs.Printing.{PutIs};
 ghost use Rattle.meters.specs.Meter.{told_read};
-ghost use Rattle.lines.specs.Lines.{named_of, rate_measured, rtt_measured, record_line, stop_line, flow_at};
+ghost use Rattle.lines.specs.Lines.{rate_measured, rtt_measured, record_line, stop_line, flow_at};
 
-use flows::Rtt;
-use meters::{AverageFlowMeter, FlowRead};
-use printer::{Measured, Named, Put, flow_line, record_line, stop_line};
+use flows::FlowProperties;
+use meters::{AverageFlowMeter, FlowReadError};
+use printer::{flow_line, record_line, stop_line};
 use quantities::Time;
 use quantities::float::to_bits;
 use remy::{Mark, Simulation, TickRecord};
@@ -36,66 +36,40 @@ fn letter(mark: Mark) -> u8
     }
 }
 
-fn named(name: Option<(u32, u32)>) -> Named
-    ensures { result ≡ named_of name }
-{
-    match name {
-        None => Named::None,
-        Some((sender, seq)) => Named::Packet(sender, seq),
-    }
-}
-
-// A tick's record.
-pub fn record_bytes(out: &mut [u8], at: usize, note: TickRecord) -> Put
+// A tick's record. The position after the line, or None where the buffer has too little room.
+#[tactic(auto, unfolding(crate::specs::Lines::record_line))]
+pub fn record_bytes(out: &mut [u8], at: usize, note: TickRecord) -> Option<usize>
     ensures { PutIs (record_line note) out.old at result out.new }
 {
     let time = to_bits(note.time.0.0);
-    let mark = note.mark;
-    let letter = letter(mark);
-    let packet = note.packet;
-    let about = named(packet);
-    let started = note.started;
-    let line = named(started);
-    record_line(out, at, time, note.part, letter, about, line)
+    let letter = letter(note.mark);
+    record_line(out, at, time, note.part, letter, note.packet, note.started)
 }
 
 // The stop line: the last number, and the clock then.
-pub fn stop_bytes(out: &mut [u8], at: usize, number: u32, simulation: Simulation) -> Put
+#[tactic(auto, unfolding(crate::specs::Lines::stop_line))]
+pub fn stop_bytes(out: &mut [u8], at: usize, number: u32, simulation: Simulation) -> Option<usize>
     ensures { PutIs (stop_line number simulation) out.old at result out.new }
 {
-    let clock = simulation.head.clock;
-    stop_line(out, at, number, to_bits(clock.0.0))
+    stop_line(out, at, number, to_bits(simulation.head.clock.0.0))
 }
 
 // The rate of a flow that is read, or none where the read is refused.
-fn rate_of(read: FlowRead) -> Measured
+fn rate_of(read: Result<FlowProperties, FlowReadError>) -> Option<u64>
     ensures { result ≡ rate_measured (told_read read) }
 {
-    match read {
-        FlowRead::Properties(flow) => Measured::Bits(to_bits(flow.throughput.0)),
-        FlowRead::NeverActive => Measured::None,
-        FlowRead::Refused => Measured::None,
-    }
+    read.ok().map(|flow| to_bits(flow.throughput.0))
 }
 
 // Its RTT, or none where there is none or the read is refused.
-fn rtt_of(read: FlowRead) -> Measured
+fn rtt_of(read: Result<FlowProperties, FlowReadError>) -> Option<u64>
     ensures { result ≡ rtt_measured (told_read read) }
 {
-    match read {
-        FlowRead::Properties(flow) => {
-            let rtt = flow.rtt;
-            match rtt {
-                Err(NoPacketsAcked) => Measured::None,
-                Ok(span) => Measured::Bits(to_bits(span.0)),
-            }
-        }
-        FlowRead::NeverActive => Measured::None,
-        FlowRead::Refused => Measured::None,
-    }
+    read.ok()?.rtt.ok().map(|span| to_bits(span.0))
 }
 
 // The flow of a sender, its meter read at the clock.
+#[tactic(auto, unfolding(crate::specs::Lines::flow_at))]
 pub fn flow_bytes(
     out: &mut [u8],
     at: usize,
@@ -103,7 +77,7 @@ pub fn flow_bytes(
     sender: LossySender,
     meter: AverageFlowMeter,
     clock: Time,
-) -> Put
+) -> Option<usize>
     ensures { PutIs (flow_at i sender meter clock) out.old at result out.new }
 {
     let read = meter.average_properties(clock);

@@ -1,8 +1,8 @@
 -- Digits by a table, and decimals in pieces. Assumes nothing.
-use Prim.Native.Nat.{ℕ, zero, suc, ◌+◌, ◌/◌, ◌%◌, ◌≤◌, ◌<◌}
+use Prim.Native.Nat.{ℕ, zero, suc, ◌+◌, ◌*◌, ◌/◌, ◌%◌, ◌^◌, ◌≤◌, ◌<◌}
 use mathlib.Core.List.{List, [], ◌∷◌, ◌++◌, append_assoc}
 use mathlib.Core.Path.{◌≡◌, sym, ap, ◌∙◌}
-use native.Mathlib.Nat.{add-zero, zero-add, not-suc-le-zero, le_of_suc-le-suc}
+use native.Mathlib.Nat.{pow-suc, add-zero, zero-add, not-suc-le-zero, le_of_suc-le-suc}
 use native.Mathlib.Omega.{arith}
 use lib.ListN.{get_or}
 use Rattle.notation.specs.Notation.{digit_byte, digits_of, decimal_of}
@@ -33,12 +33,6 @@ two_digits n h =
     let e : n / 10 % 10 ≡ n / 10 = omega arith in
     sym (rw (e, low_digit (n / 10) (omega arith), low_digit (n % 10) (omega arith)))
 
-pub decimal-two : (n : ℕ) → 10 ≤ n → n < 100 → digits_of 10 2 n ≡ decimal_of n
-unfolding digits_of
-decimal-two n h l =
-    let e : n / 10 % 10 ≡ n / 10 = omega arith in
-    rw e (sym (decimal_high n h ∙ ap (λ (s : List ℕ). s ++ (digit_byte (n % 10) ∷ [])) (decimal_low (n / 10) (omega arith))))
-
 -- the decimal of the hundreds, and the two digits of the rest
 pub decimal_hundreds : {s : List ℕ} (n : ℕ) → 100 ≤ n → s ≡ decimal_of (n / 100) → s ++ digits_of 10 2 (n % 100) ≡ decimal_of n
 unfolding digits_of
@@ -51,3 +45,16 @@ decimal_hundreds n h e =
     (decimal_high n (omega arith)
     ∙ ap (λ (s : List ℕ). s ++ (digit_byte (n % 10) ∷ [])) (decimal_high (n / 10) (omega arith))
     ∙ append_assoc (decimal_of (n / 10 / 10)) (digit_byte (n / 10 % 10) ∷ []) (digit_byte (n % 10) ∷ [])))
+
+-- as many digits as the highest power of ten in a number tells
+pub decimal_power : (k n : ℕ) → 10 ^ k ≤ n → n < 10 * 10 ^ k → digits_of 10 (suc k) n ≡ decimal_of n
+unfolding digits_of
+decimal_power zero n h l =
+    let small : n < 10 = omega (arith, l) in
+    let e : n % 10 ≡ n = omega arith in
+    rw e (sym (decimal_low n small))
+decimal_power (suc k) n h l =
+    let more : 10 ^ k * 10 ≤ n = rw pow-suc at h in
+    let less : n < 10 * (10 ^ k * 10) = rw pow-suc at l in
+    ap (λ (s : List ℕ). s ++ (digit_byte (n % 10) ∷ [])) (decimal_power k (n / 10) (omega (arith, more)) (omega (arith, less)))
+    ∙ sym (decimal_high n (omega (arith, more, less)))

@@ -1,27 +1,21 @@
 -- The printed lines (document 01, "The text program"). Definitions only.
 -- Doubles and whole numbers are written as in a description.
-use Rattle.std.specs.Prelude.{ℕ, ◌+◌, ◌≤◌, cond, List, [], ◌∷◌, ◌++◌, ◌≡◌, leb, length, take, drop}
+use Rattle.std.specs.Prelude.{ℕ, ◌+◌, ◌≤◌, cond, List, [], ◌∷◌, ◌++◌, ◌≡◌, Option, Some, None, leb, length, take, drop}
 use Rattle.notation.specs.Notation.{lf, colon, hex_of, decimal_of}
 use Rattle.printer.specs.Words.{dash, time_word, part_word, mark_word, packet_word, line_word, stop_word, clock_word, flow_word, sent_word, counted_word, rate_word, rtt_word}
-use Rattle.printer.specs.declared.Named.{Named}
-use Rattle.printer.specs.declared.Named.TheVariants as N
-use Rattle.printer.specs.declared.Measured.{Measured}
-use Rattle.printer.specs.declared.Measured.TheVariants as M
-use Rattle.printer.specs.declared.Put.{Put}
-use Rattle.printer.specs.declared.Put.TheVariants as P
 
 -- a packet is sender:sequence, or absent
-abbrev pub packet_text : Named → List ℕ
-packet_text N.None = dash ∷ []
-packet_text (N.Packet sender sequence) = decimal_of sender ++ ((colon ∷ []) ++ decimal_of sequence)
+abbrev pub packet_text : Option (ℕ × ℕ) → List ℕ
+packet_text None = dash ∷ []
+packet_text (Some (sender, sequence)) = decimal_of sender ++ ((colon ∷ []) ++ decimal_of sequence)
 
 -- a rate or an RTT is a double, or absent
-abbrev pub measured_text : Measured → List ℕ
-measured_text M.None = dash ∷ []
-measured_text (M.Bits v) = hex_of v
+abbrev pub measured_text : Option ℕ → List ℕ
+measured_text None = dash ∷ []
+measured_text (Some v) = hex_of v
 
 -- a tick's record: `time=H part=P mark=M packet=S:Q line=S:Q`
-unfoldable pub record_text : ℕ → ℕ → ℕ → Named → Named → List ℕ
+unfoldable pub record_text : ℕ → ℕ → ℕ → Option (ℕ × ℕ) → Option (ℕ × ℕ) → List ℕ
 record_text time part mark packet line =
     (time_word ++ hex_of time)
     ++ (part_word ++ decimal_of part)
@@ -39,7 +33,7 @@ unfoldable pub refused_text : ℕ → List ℕ
 refused_text number = (stop_word ++ decimal_of number) ++ (lf ∷ [])
 
 -- a flow: `flow=I sent=N counted=N rate=H rtt=H`
-unfoldable pub flow_text : ℕ → ℕ → ℕ → Measured → Measured → List ℕ
+unfoldable pub flow_text : ℕ → ℕ → ℕ → Option ℕ → Option ℕ → List ℕ
 flow_text flow sent counted rate rtt =
     (flow_word ++ decimal_of flow)
     ++ (sent_word ++ decimal_of sent)
@@ -53,8 +47,8 @@ unfoldable pub written : List ℕ → ℕ → List ℕ → List ℕ
 written out at s = take at out ++ s ++ drop (at + length s) out
 
 -- a line is put where room for 128 bytes is left, which it does not exceed; else out is left as it was
-pub record PutIs (line out : List ℕ) (at : ℕ) (r : Put) (after : List ℕ) : Type 0 where
-  pub answer : r ≡ cond (leb (at + 128) (length out)) (P.At (at + length line)) P.Full
+pub record PutIs (line out : List ℕ) (at : ℕ) (r : Option ℕ) (after : List ℕ) : Type 0 where
+  pub answer : r ≡ cond (leb (at + 128) (length out)) (Some (at + length line)) None
   pub bytes : after ≡ cond (leb (at + 128) (length out)) (written out at line) out
   pub short : at + 128 ≤ length out → length line ≤ 128
 

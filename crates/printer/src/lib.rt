@@ -1,242 +1,203 @@
 // The printed lines, put into a lent buffer at a position.
 #![tactic(auto)]
 
-ghost use Rattle.std.specs.Prelude.{◌+◌, ◌-◌, ◌≤◌, ◌<◌, ◌≡◌, [], ◌∷◌, ◌++◌, length};
+ghost use Rattle.std.specs.Prelude.{◌+◌, ◌≤◌, ◌<◌, ◌≡◌, [], ◌∷◌, length};
+ghost use Rattle.std.specs.Option.{IfSome, IfNone};
 ghost use Rattle.notation.specs.Notation.{digits_of, hex_of, decimal_of};
-ghost use Rattle.printer.specs.Printing.{Wrote, PutIs, packet_text, measured_text, record_text, stop_text, refused_text, flow_text};
+ghost use Rattle.printer.specs.Printing.{PutIs, packet_text, measured_text, record_text, stop_text, refused_text, flow_text};
+ghost use Rattle.printer.specs.Pens.{HasRoom, PenWrote};
 
-// The position after the line, or too little room.
-#[derive(Clone, Copy)]
-pub enum Put {
-    At(usize),
-    Full,
+// A lent buffer, and where its next byte is put. What puts is inlined always: so the pen stays in registers, and a line takes no
+// longer than by functions of a buffer and a position.
+#[derive(Drop)]
+struct Pen<'a> {
+    out: &'a mut [u8],
+    at: usize,
 }
 
-// A packet by its sender and sequence, or none.
-#[derive(Clone, Copy)]
-pub enum Named {
-    None,
-    Packet(u32, u32),
-}
-
-// A double by its bits, or none.
-#[derive(Clone, Copy)]
-pub enum Measured {
-    None,
-    Bits(u64),
-}
-
-// One byte.
-fn put_byte(out: &mut [u8], at: usize, b: u8) -> usize
-    requires { at + 1 ≤ length out.old }
-    ensures { Wrote (1) (b ∷ []) out.old at result out.new }
-{
-    out[at] = b;
-    at + 1
-}
-
-// A word.
-fn put_word(out: &mut [u8], at: usize, w: &[u8]) -> usize
-    requires { at + length w.now ≤ length out.old }
-    ensures { Wrote (length w.now) w.now out.old at result out.new }
-{
-    let mut i = 0;
-    let mut next = at;
-    while i < w.len() {
-        out[next] = w[i];
-        next += 1;
-        i += 1;
+impl<'a> Pen<'a> {
+    // Room for a line.
+    fn room(&self) -> Option<()>
+        ensures some { IfSome result (λ _. HasRoom 128 self.now) }
+        ensures none { IfNone result (length self.now.out.now < self.now.at + 128) }
+    {
+        (128 <= self.out.len().saturating_sub(self.at)).then_some(())
     }
-    next
-}
 
-// The last k digits of n, the lowest first. Each call has a literal base, so that the compiler leaves no division.
-fn put_digits(out: &mut [u8], at: usize, base: u64, k: usize, n: u64) -> usize
-    requires { (0 < base) × (base ≤ 16) × (at + k ≤ length out.old) }
-    ensures { Wrote (k) (digits_of base k n) out.old at result out.new }
-{
-    let digits = b"0123456789abcdef";
-    let mut i = k;
-    let mut rest = n;
-    while 0 < i {
-        i -= 1;
-        let d = (rest % base) as usize;
-        let p = at + i;
-        out[p] = digits[d];
-        rest /= base;
+    // One byte.
+    #[inline(always)]
+    fn byte(&mut self, b: u8)
+        requires { HasRoom 1 self.old }
+        ensures { PenWrote 1 (b ∷ []) self.old self.new }
+    {
+        self.out[self.at] = b;
+        self.at += 1;
     }
-    at + k
-}
 
-// How many digits n has in decimal.
-fn decimal_digits(n: u64) -> usize
-    ensures { result ≡ length (decimal_of n) }
-{
-    let mut k = 1;
-    let mut rest = n;
-    while 10 <= rest {
-        rest /= 10;
-        k += 1;
+    // A word.
+    #[inline(always)]
+    fn word(&mut self, w: &[u8])
+        requires { HasRoom (length w.now) self.old }
+        ensures { PenWrote (length w.now) w.now self.old self.new }
+    {
+        let end = self.at + w.len();
+        self.out[self.at..end].copy_from_slice(w);
+        self.at = end;
     }
-    k
-}
 
-// A double.
-fn put_hex(out: &mut [u8], at: usize, v: u64) -> usize
-    requires { at + 16 ≤ length out.old }
-    ensures { Wrote (16) (hex_of v) out.old at result out.new }
-{
-    put_digits(out, at, 16, 16, v)
-}
-
-// Two decimal digits.
-fn put_two(out: &mut [u8], at: usize, n: u64) -> usize
-    requires { (n < 100) × (at + 2 ≤ length out.old) }
-    ensures { Wrote (2) (digits_of 10 2 n) out.old at result out.new }
-{
-    let next = put_byte(out, at, 48 + (n / 10) as u8);
-    put_byte(out, next, 48 + (n % 10) as u8)
-}
-
-// A whole number of at most 4 digits.
-fn put_short(out: &mut [u8], at: usize, n: u64) -> usize
-    requires { (n < 10000) × (at + 4 ≤ length out.old) }
-    ensures { Wrote (4) (decimal_of n) out.old at result out.new }
-{
-    if n < 10 {
-        return put_byte(out, at, 48 + n as u8);
+    // The last k digits of n, the lowest first. Each call has a literal base, so that the compiler leaves no division.
+    #[inline(always)]
+    fn digits(&mut self, base: u64, k: usize, n: u64)
+        requires { (0 < base) × (base ≤ 16) × HasRoom k self.old }
+        ensures { PenWrote k (digits_of base k n) self.old self.new }
+    {
+        let digits = b"0123456789abcdef";
+        let mut rest = n;
+        for i in (0..k).rev() {
+            self.out[self.at + i] = digits[(rest % base) as usize];
+            rest /= base;
+        }
+        self.at += k;
     }
-    if n < 100 {
-        return put_two(out, at, n);
-    }
-    if n < 1000 {
-        let next = put_byte(out, at, 48 + (n / 100) as u8);
-        return put_two(out, next, n % 100);
-    }
-    let next = put_two(out, at, n / 100);
-    put_two(out, next, n % 100)
-}
 
-// A whole number, of at most 20 digits: one of 5 to 8 digits in three pieces, a longer one by the loop.
-fn put_number(out: &mut [u8], at: usize, n: u64) -> usize
-    requires { at + 20 ≤ length out.old }
-    ensures { Wrote (20) (decimal_of n) out.old at result out.new }
-{
-    if n < 10000 {
-        return put_short(out, at, n);
+    // A double.
+    #[inline(always)]
+    #[tactic(auto, unfolding(notation::specs::Notation::hex_of))]
+    fn hex(&mut self, v: u64)
+        requires { HasRoom 16 self.old }
+        ensures { PenWrote 16 (hex_of v) self.old self.new }
+    {
+        self.digits(16, 16, v);
     }
-    if n < 100000000 {
-        let high = n / 100;
-        let a = put_short(out, at, high / 100);
-        let b = put_two(out, a, high % 100);
-        return put_two(out, b, n % 100);
+
+    // Two decimal digits.
+    #[inline(always)]
+    fn two(&mut self, n: u64)
+        requires { (n < 100) × HasRoom 2 self.old }
+        ensures { PenWrote 2 (digits_of 10 2 n) self.old self.new }
+    {
+        self.byte(b'0' + (n / 10) as u8);
+        self.byte(b'0' + (n % 10) as u8);
     }
-    let k = decimal_digits(n);
-    put_digits(out, at, 10, k, n)
-}
 
-// A word and a whole number.
-fn put_decimal(out: &mut [u8], at: usize, key: &[u8], n: u64) -> usize
-    requires { at + (length key.now + 20) ≤ length out.old }
-    ensures { Wrote (length key.now + 20) (key.now ++ decimal_of n) out.old at result out.new }
-{
-    let next = put_word(out, at, key);
-    put_number(out, next, n)
-}
+    // A whole number of at most 4 digits.
+    #[inline(always)]
+    fn short(&mut self, n: u64)
+        requires { (n < 10000) × HasRoom 4 self.old }
+        ensures { PenWrote 4 (decimal_of n) self.old self.new }
+    {
+        if n < 10 {
+            self.byte(b'0' + n as u8);
+        } else if n < 100 {
+            self.two(n);
+        } else if n < 1000 {
+            self.byte(b'0' + (n / 100) as u8);
+            self.two(n % 100);
+        } else {
+            self.two(n / 100);
+            self.two(n % 100);
+        }
+    }
 
-// A word and one byte.
-fn put_letter(out: &mut [u8], at: usize, key: &[u8], b: u8) -> usize
-    requires { at + (length key.now + 1) ≤ length out.old }
-    ensures { Wrote (length key.now + 1) (key.now ++ (b ∷ [])) out.old at result out.new }
-{
-    let next = put_word(out, at, key);
-    put_byte(out, next, b)
-}
+    // A whole number, of at most 20 digits: one of 5 to 8 digits in three pieces, a longer one by the loop.
+    #[inline(always)]
+    fn number(&mut self, n: u64)
+        requires { HasRoom 20 self.old }
+        ensures { PenWrote 20 (decimal_of n) self.old self.new }
+    {
+        if n < 10000 {
+            self.short(n);
+        } else if n < 100000000 {
+            let high = n / 100;
+            self.short(high / 100);
+            self.two(high % 100);
+            self.two(n % 100);
+        } else {
+            self.digits(10, n.ilog10() as usize + 1, n);
+        }
+    }
 
-// A word and a packet. The sequence is put where 20 digits have room, though it has at most 10.
-fn put_packet(out: &mut [u8], at: usize, key: &[u8], packet: Named) -> usize
-    requires { at + (length key.now + 31) ≤ length out.old }
-    ensures { Wrote (length key.now + 21) (key.now ++ packet_text packet) out.old at result out.new }
-{
-    let next = put_word(out, at, key);
-    match packet {
-        Named::None => put_byte(out, next, b'-'),
-        Named::Packet(sender, sequence) => {
-            let a = put_number(out, next, sender as u64);
-            let b = put_byte(out, a, b':');
-            put_number(out, b, sequence as u64)
+    // A packet by its sender and sequence. The sequence is put where 20 digits have room, though it has at most 10.
+    #[inline(always)]
+    fn packet(&mut self, packet: Option<(u32, u32)>)
+        requires { HasRoom 31 self.old }
+        ensures { PenWrote 21 (packet_text packet) self.old self.new }
+    {
+        match packet {
+            None => self.byte(b'-'),
+            Some((sender, sequence)) => {
+                self.number(sender as u64);
+                self.byte(b':');
+                self.number(sequence as u64);
+            }
+        }
+    }
+
+    // A rate or an RTT, a double by its bits.
+    #[inline(always)]
+    fn measured(&mut self, value: Option<u64>)
+        requires { HasRoom 16 self.old }
+        ensures { PenWrote 16 (measured_text value) self.old self.new }
+    {
+        match value {
+            None => self.byte(b'-'),
+            Some(v) => self.hex(v),
         }
     }
 }
 
-// A word and a rate or an RTT.
-fn put_measured(out: &mut [u8], at: usize, key: &[u8], value: Measured) -> usize
-    requires { at + (length key.now + 16) ≤ length out.old }
-    ensures { Wrote (length key.now + 16) (key.now ++ measured_text value) out.old at result out.new }
-{
-    let next = put_word(out, at, key);
-    match value {
-        Measured::None => put_byte(out, next, b'-'),
-        Measured::Bits(v) => put_hex(out, next, v),
-    }
-}
-
-// How many bytes are left from a position.
-fn left(len: usize, at: usize) -> usize
-    ensures { result ≡ len - at }
-{
-    if at < len { len - at } else { 0 }
-}
-
-// A tick's record.
+// A tick's record. The position after the line, or None where fewer than 128 bytes are left.
 pub fn record_line(
     out: &mut [u8],
     at: usize,
     time: u64,
     part: usize,
     mark: u8,
-    packet: Named,
-    line: Named,
-) -> Put
+    packet: Option<(u32, u32)>,
+    line: Option<(u32, u32)>,
+) -> Option<usize>
     ensures { PutIs (record_text time part mark packet line) out.old at result out.new }
 {
-    if 128 <= left(out.len(), at) {
-        let o = put_word(out, at, b"time=");
-        let a = put_hex(out, o, time);
-        let b = put_decimal(out, a, b" part=", part as u64);
-        let c = put_letter(out, b, b" mark=", mark);
-        let d = put_packet(out, c, b" packet=", packet);
-        let e = put_packet(out, d, b" line=", line);
-        Put::At(put_byte(out, e, b'\n'))
-    } else {
-        Put::Full
-    }
+    let mut pen = Pen { out, at };
+    pen.room()?;
+    pen.word(b"time=");
+    pen.hex(time);
+    pen.word(b" part=");
+    pen.number(part as u64);
+    pen.word(b" mark=");
+    pen.byte(mark);
+    pen.word(b" packet=");
+    pen.packet(packet);
+    pen.word(b" line=");
+    pen.packet(line);
+    pen.byte(b'\n');
+    Some(pen.at)
 }
 
 // The end of a run.
-pub fn stop_line(out: &mut [u8], at: usize, number: u32, clock: u64) -> Put
+pub fn stop_line(out: &mut [u8], at: usize, number: u32, clock: u64) -> Option<usize>
     ensures { PutIs (stop_text number clock) out.old at result out.new }
 {
-    if 128 <= left(out.len(), at) {
-        let a = put_decimal(out, at, b"stop=", number as u64);
-        let o = put_word(out, a, b" clock=");
-        let b = put_hex(out, o, clock);
-        Put::At(put_byte(out, b, b'\n'))
-    } else {
-        Put::Full
-    }
+    let mut pen = Pen { out, at };
+    pen.room()?;
+    pen.word(b"stop=");
+    pen.number(number as u64);
+    pen.word(b" clock=");
+    pen.hex(clock);
+    pen.byte(b'\n');
+    Some(pen.at)
 }
 
 // A refused build, or a malformed description.
-pub fn refused_line(out: &mut [u8], at: usize, number: u32) -> Put
+pub fn refused_line(out: &mut [u8], at: usize, number: u32) -> Option<usize>
     ensures { PutIs (refused_text number) out.old at result out.new }
 {
-    if 128 <= left(out.len(), at) {
-        let a = put_decimal(out, at, b"stop=", number as u64);
-        Put::At(put_byte(out, a, b'\n'))
-    } else {
-        Put::Full
-    }
+    let mut pen = Pen { out, at };
+    pen.room()?;
+    pen.word(b"stop=");
+    pen.number(number as u64);
+    pen.byte(b'\n');
+    Some(pen.at)
 }
 
 // A flow.
@@ -246,19 +207,23 @@ pub fn flow_line(
     flow: u32,
     sent: u32,
     counted: u32,
-    rate: Measured,
-    rtt: Measured,
-) -> Put
+    rate: Option<u64>,
+    rtt: Option<u64>,
+) -> Option<usize>
     ensures { PutIs (flow_text flow sent counted rate rtt) out.old at result out.new }
 {
-    if 128 <= left(out.len(), at) {
-        let a = put_decimal(out, at, b"flow=", flow as u64);
-        let b = put_decimal(out, a, b" sent=", sent as u64);
-        let c = put_decimal(out, b, b" counted=", counted as u64);
-        let d = put_measured(out, c, b" rate=", rate);
-        let e = put_measured(out, d, b" rtt=", rtt);
-        Put::At(put_byte(out, e, b'\n'))
-    } else {
-        Put::Full
-    }
+    let mut pen = Pen { out, at };
+    pen.room()?;
+    pen.word(b"flow=");
+    pen.number(flow as u64);
+    pen.word(b" sent=");
+    pen.number(sent as u64);
+    pen.word(b" counted=");
+    pen.number(counted as u64);
+    pen.word(b" rate=");
+    pen.measured(rate);
+    pen.word(b" rtt=");
+    pen.measured(rtt);
+    pen.byte(b'\n');
+    Some(pen.at)
 }

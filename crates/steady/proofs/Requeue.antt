@@ -1,5 +1,5 @@
 -- The queue under the stores of a tick: a store that one part alone reads leaves the other places right, and the requeue puts that part's place right. Assumes nothing.
-use Rattle.std.proofs.Common.{Option, Some, None, Ok}
+use Rattle.std.proofs.Common.{Option, Some, None}
 use mathlib.Core.Path.{◌≡◌, refl, ap, ap₂, subst, ◌∙◌}
 use mathlib.Core.Bool.{◌&&◌}
 use mathlib.Core.List.{List}

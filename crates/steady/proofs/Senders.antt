@@ -8,7 +8,6 @@ use lib.Dec.{leb}
 use Rattle.quantities.specs.declared.time.Time.{Time}
 use Rattle.link.specs.declared.packet.Packet.{Packet}
 use Rattle.sender.specs.declared.lossy.Policy.{Policy}
-use Rattle.sender.specs.declared.lossy.Policy.TheVariants as Policy
 use Rattle.sender.specs.declared.lossy.Enabled.{Enabled}
 use Rattle.sender.specs.declared.lossy.Sent.{Sent}
 use Rattle.sender.specs.Sender.{first_window, window_sent, window_counted, tick_timer, not_sent, sent_with, tick_send, acked}

@@ -19,7 +19,6 @@ use Rattle.quantities.proofs.Values.{Is, Rounds, own, le_is, rounds_below, round
 use Rattle.quantities.proofs.Ranges.{Within, within-finite, test→within, add_within, sum_held, sum_fine}
 use Rattle.meters.specs.Meter.{total_fit}
 use Rattle.sender.specs.declared.lossy.Policy.{Policy}
-use Rattle.sender.specs.declared.lossy.Policy.TheVariants as Policy
 use Rattle.sender.specs.Sender.{timer_in, timer_sent}
 use Rattle.remy.specs.Network.{policy_fit}
 use Rattle.remy.proofs.Facts.{range_i}

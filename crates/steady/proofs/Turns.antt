@@ -19,14 +19,12 @@ use Rattle.link.specs.declared.packet.Transit.{Transit}
 use Rattle.link.specs.declared.link.Line.{Line}
 use Rattle.link.specs.declared.link.Arrival.{Arrival}
 use Rattle.link.specs.declared.link.Left.{Left}
-use Rattle.link.specs.declared.link.Left.TheVariants as Left
 use Rattle.link.specs.declared.link.Delivered.{Delivered}
 use Rattle.link.specs.declared.link.Transmitted.{Transmitted}
 use Rattle.sender.specs.declared.lossy.SenderState.{SenderState}
 use Rattle.sender.specs.declared.lossy.SenderState.TheVariants as State
 use Rattle.sender.specs.declared.lossy.LossySender.{LossySender}
 use Rattle.sender.specs.declared.lossy.Heard.{Heard}
-use Rattle.sender.specs.declared.lossy.Heard.TheVariants as Heard
 use Rattle.toggler.specs.declared.toggler.Toggled.{Toggled}
 use Rattle.link.specs.Ring.{places}
 use Rattle.link.specs.Link.{admits, admitted, receive_of, is_due, departed, try_deliver, is_free, not_started, try_transmit}

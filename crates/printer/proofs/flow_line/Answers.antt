@@ -1,14 +1,20 @@
 -- `printer::flow_line` meets its contract: with room for 128 bytes the parts are put one after the other, and never need more; without it nothing is put.
 -- Assumes nothing.
+use mathlib.Core.Path.{refl}
 use native.Mathlib.Omega.{arith}
+use Rattle.std.proofs.Common.{rules}
 use Rattle.printer.specs.Printing.{flow_text}
-use Rattle.printer.proofs.Buffer.{put_full, put_five}
+use Rattle.printer.proofs.Buffer.{line_put, ◌▸◌, ◌▸▸◌, one}
 use Rattle.printer.proofs.flow_line.Goals as goal
 
-pub returns-then-left-ge128 : goal.returns-then-left-ge128
+pub returns : goal.returns
 unfolding flow_text
-returns-then-left-ge128 c =
-    put_five (omega arith) (omega arith) c.put_decimal-a.ensures c.put_decimal-b.ensures c.put_decimal-c.ensures c.put_measured-d.ensures c.put_measured-e.ensures c.put_byte.ensures
-
-pub returns-else-left-ge128 : goal.returns-else-left-ge128
-returns-else-left-ge128 c = put_full _ _ _ (omega arith)
+returns c =
+    line_put c.in_ok-room.ensures.some
+    (c.word.ensures ▸ c.number.ensures
+    ▸▸ c.word-2.ensures ▸ c.number-2.ensures
+    ▸▸ c.word-3.ensures ▸ c.number-3.ensures
+    ▸▸ c.word-4.ensures ▸ c.measured.ensures
+    ▸▸ c.word-5.ensures ▸ c.measured-2.ensures
+    ▸▸ one c.byte.ensures)
+    (omega arith) refl (search rules)

@@ -1,8 +1,0 @@
--- `printer::put_hex` meets its contract: 16 digits to the base 16.
--- Assumes nothing.
-use Rattle.notation.specs.Notation.{hex_of}
-use Rattle.printer.proofs.put_hex.Goals as goal
-
-pub returns : goal.returns
-unfolding hex_of
-returns c = c.put_digits.ensures
