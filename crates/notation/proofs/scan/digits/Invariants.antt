@@ -7,6 +7,3 @@ use Rattle.notation.proofs.scan.digits.Given as goal
 
 abbrev pub invariant-loop-next : goal.invariant-loop-next
 invariant-loop-next l = SomeDigits l.base l.most l.text l.at l.value l.next
-
-abbrev pub decreases-loop-next : goal.decreases-loop-next
-decreases-loop-next l = length l.text - l.next

@@ -7,6 +7,3 @@ use Rattle.notation.proofs.scan.word.Given as goal
 
 abbrev pub invariant-loop-next : goal.invariant-loop-next
 invariant-loop-next l = Passed l.text l.at l.value l.next
-
-abbrev pub decreases-loop-next : goal.decreases-loop-next
-decreases-loop-next l = length l.text - l.next
