@@ -10,7 +10,7 @@ use lib.ListN.{length, get_or, drop, length-append, drop_of_length-le}
 use lib.Seq.{drop-cons}
 use native.Mathlib.Numerals.{add-one}
 use borrow.Author.Tests.{ltb-true, ltb-false, lt-ltb, le-ltb}
-use Rattle.std.specs.Prelude.{Option, Some, None}
+use Rattle.std.specs.Prelude.{Some, None}
 use Rattle.notation.specs.Notation.{digit_byte}
 use Rattle.notation.specs.Reading.{Run, ends, digit, NoDigit, DigitIs, SomeDigits, NoDigits}
 

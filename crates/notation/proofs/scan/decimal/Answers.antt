@@ -1,6 +1,6 @@
 -- `notation::scan::decimal` meets its contract: all digits are read, there are some and no zero leads others, and the byte ends them. Any other text has no whole number there.
 -- Assumes nothing.
-use mathlib.Core.Path.{◌≡◌, refl, sym, ap, ◌∙◌}
+use mathlib.Core.Path.{refl, sym, ap, ◌∙◌}
 use mathlib.Core.Bool.{false≢true}
 use mathlib.Core.List.{List}
 use Prim.Native.Nat.{ℕ}

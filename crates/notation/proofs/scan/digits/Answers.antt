@@ -3,7 +3,7 @@
 use mathlib.Core.Path.{◌≡◌, refl}
 use Prim.Native.Nat.{◌+◌, ◌*◌, ◌<◌}
 use native.Mathlib.Omega.{arith}
-use Rattle.notation.proofs.Digits.{some_none, some_more, some_over, last_end, last_other}
+use Rattle.notation.proofs.Digits.{some_none, some_more, some_over}
 use Rattle.notation.specs.InPlace.{InPlace}
 use Rattle.notation.proofs.scan.digits.Code as code
 use Rattle.notation.proofs.scan.digits.Goals as goal

@@ -1,7 +1,5 @@
 -- `notation::scan::word` meets its contract. The invariant: what was passed is letters with the value so far. The measure is what is left of the text.
 -- Assumes nothing.
-use Prim.Native.Nat.{◌-◌}
-use lib.ListN.{length}
 use Rattle.notation.proofs.Words.{Passed}
 use Rattle.notation.proofs.scan.word.Given as goal
 
