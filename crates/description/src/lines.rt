@@ -1,4 +1,6 @@
 // The lines of a description. A reader answers what it read and the position after it.
+#![tactic(auto, using(crate::proofs::Cases::lf_ends, crate::proofs::Cases::colon_ends, crate::proofs::Cases::comma_ends))]
+
 ghost use Rattle.std.specs.Prelude.{◌+◌, ◌^◌, ◌≤◌, ◌<◌, [], ◌∷◌, ◌≡◌};
 ghost use Rattle.notation.specs.Reading.{Reads, NoDigit, told, keyed};
 ghost use Rattle.description.specs.Text.{Counted};
@@ -75,13 +77,7 @@ pub(crate) fn ended(text: &[u8], at: usize, kind: Kind, end: u8) -> Option<(u64,
 // A word, a number, and the byte that ends it.
 //
 // A helper within this crate: the caller gives the value of a word, and an end that is no digit.
-pub(crate) fn value(
-    text: &[u8],
-    at: usize,
-    word: u64,
-    kind: Kind,
-    end: u8,
-) -> Option<(u64, usize)>
+pub(crate) fn value(text: &[u8], at: usize, word: u64, kind: Kind, end: u8) -> Option<(u64, usize)>
     requires { NoDigit 16 (end ∷ []) }
     ensures { ForWord word (λ w. Reads (keyed w (kind_form kind end)) text.now at result) }
 {
@@ -90,12 +86,7 @@ pub(crate) fn value(
 }
 
 // Two numbers: `n:n`.
-pub(crate) fn both(
-    text: &[u8],
-    at: usize,
-    first: Kind,
-    second: Kind,
-) -> Option<((u64, u64), usize)>
+pub(crate) fn both(text: &[u8], at: usize, first: Kind, second: Kind) -> Option<((u64, u64), usize)>
     ensures { Reads (two_form first second) text.now at result }
 {
     let (a, next) = ended(text, at, first, b':')?;
@@ -120,17 +111,15 @@ pub(crate) fn distribution_value(text: &[u8], at: usize) -> Option<(Distribution
     ensures { Reads distribution_value text.now at (told distribution_case result) }
 {
     let (first, next) = word(text, at)?;
-    match first {
-        ALWAYS => {
-            let (v, next) = ended(text, next, Kind::Double, b'\n')?;
-            Some((Distribution::Always(v), next))
-        }
-        UNIFORM => {
-            let ((min, max), next) = both(text, next, Kind::Double, Kind::Double)?;
-            Some((Distribution::Uniform(min, max), next))
-        }
-        _ => None,
+    if first == ALWAYS {
+        let (v, next) = ended(text, next, Kind::Double, b'\n')?;
+        return Some((Distribution::Always(v), next));
     }
+    if first == UNIFORM {
+        let ((min, max), next) = both(text, next, Kind::Double, Kind::Double)?;
+        return Some((Distribution::Uniform(min, max), next));
+    }
+    None
 }
 
 // on or off.
@@ -149,21 +138,19 @@ pub(crate) fn policy_line(text: &[u8], at: usize) -> Option<(Policy, usize)>
 {
     let from = key(text, at, POLICY)?;
     let (first, next) = word(text, from)?;
-    match first {
-        HELD => {
-            let (w, next) = ended(text, next, Kind::Whole(MOST32), b'\n')?;
-            Some((Policy::Held(w as u32), next))
-        }
-        GROWN => {
-            let ((f, m), next) = both(text, next, Kind::Whole(MOST32), Kind::Whole(MOST32))?;
-            Some((Policy::Grown(f as u32, m as u32), next))
-        }
-        TIMED => {
-            let ((m, h), next) = both(text, next, Kind::Whole(MOST32), Kind::Double)?;
-            Some((Policy::Timed(m as u32, h), next))
-        }
-        _ => None,
+    if first == HELD {
+        let (w, next) = ended(text, next, Kind::Whole(MOST32), b'\n')?;
+        return Some((Policy::Held(w as u32), next));
     }
+    if first == GROWN {
+        let ((f, m), next) = both(text, next, Kind::Whole(MOST32), Kind::Whole(MOST32))?;
+        return Some((Policy::Grown(f as u32, m as u32), next));
+    }
+    if first == TIMED {
+        let ((m, h), next) = both(text, next, Kind::Whole(MOST32), Kind::Double)?;
+        return Some((Policy::Timed(m as u32, h), next));
+    }
+    None
 }
 
 // The link: delay, rate, loss and limit.
