@@ -77,13 +77,6 @@ module _ {text : List ℕ} {at : ℕ} where
   pub last_absent : Absent (decimal_form most64 comma) text at → Absent last_form text at → Absent sizes_form text at
   last_absent none f = step_absent (either-none last_form more_form f (pair-first sizes_form none))
 
--- a value ends within the text
-pub value_within : (end : ℕ) {text : List ℕ} {at v next : ℕ} → Found (decimal_form most64 end) text at v next → (at < next) × (next ≤ length text)
-value_within end {text} {at} {v} {next} f =
-    let some = length-append (decimal_of v) (end ∷ []) in
-    let all = ap length f.here ∙ length-append (decimal_of v ++ (end ∷ [])) (drop next text) in
-    (omega (arith, f.count, some), omega (arith, f.count, some, all, length-drop at text, length-drop next text))
-
 -- what is read after so many values
 abbrev after : List ℕ → Option (List ℕ × ℕ) → Option (List ℕ × ℕ)
 after vs = told (λ ws. vs ++ ws)

@@ -87,8 +87,11 @@ grown_form = keyed grown_key (two_form (E.Whole most32) (E.Whole most32))
 abbrev pub timed_form : Form (ℕ × ℕ)
 timed_form = keyed timed_key (two_form (E.Whole most32) E.Double)
 
+abbrev pub policy_value : Form (ℕ ⊎ ((ℕ × ℕ) ⊎ (ℕ × ℕ)))
+policy_value = either held_form (either grown_form timed_form)
+
 abbrev pub policy_form : Form (ℕ ⊎ ((ℕ × ℕ) ⊎ (ℕ × ℕ)))
-policy_form = keyed policy_key (either held_form (either grown_form timed_form))
+policy_form = keyed policy_key policy_value
 
 abbrev pub policy_case : Policy → ℕ ⊎ ((ℕ × ℕ) ⊎ (ℕ × ℕ))
 policy_case (Held w) = inl w

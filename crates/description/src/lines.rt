@@ -4,7 +4,7 @@
 ghost use Rattle.std.specs.Prelude.{◌+◌, ◌^◌, ◌≤◌, ◌<◌, [], ◌∷◌, ◌≡◌};
 ghost use Rattle.notation.specs.Reading.{Reads, NoDigit, told, keyed};
 ghost use Rattle.description.specs.Text.{Counted};
-ghost use Rattle.description.specs.Lines.{ForWord, Tells, limit_case, distribution_case, policy_case, link_case, load_case, course_case, with_value, ReadsBits, kind_form, two_form, limit_form, distribution_value, distribution_form, policy_form, link_form, load_form, course_form};
+ghost use Rattle.description.specs.Lines.{ForWord, Tells, limit_case, distribution_case, policy_case, link_case, load_case, course_case, with_value, ReadsBits, kind_form, two_form, limit_form, distribution_value, distribution_form, policy_value, policy_form, link_form, load_form, course_form};
 
 use crate::{Distribution, Policy};
 use notation::scan::{decimal, hex16, key, word};
@@ -132,12 +132,11 @@ pub(crate) fn distribution_line(text: &[u8], at: usize, word: u64) -> Option<(Di
     distribution_value(text, next)
 }
 
-// policy: `held:w`, `grown:f:m` or `timed:m:h`. The first word of the value tells which.
-pub(crate) fn policy_line(text: &[u8], at: usize) -> Option<(Policy, usize)>
-    ensures { Reads policy_form text.now at (told policy_case result) }
+// The value of policy: `held:w`, `grown:f:m` or `timed:m:h`. The first word tells which.
+pub(crate) fn policy_value(text: &[u8], at: usize) -> Option<(Policy, usize)>
+    ensures { Reads policy_value text.now at (told policy_case result) }
 {
-    let from = key(text, at, POLICY)?;
-    let (first, next) = word(text, from)?;
+    let (first, next) = word(text, at)?;
     if first == HELD {
         let (w, next) = ended(text, next, Kind::Whole(MOST32), b'\n')?;
         return Some((Policy::Held(w as u32), next));
@@ -151,6 +150,14 @@ pub(crate) fn policy_line(text: &[u8], at: usize) -> Option<(Policy, usize)>
         return Some((Policy::Timed(m as u32, h), next));
     }
     None
+}
+
+// policy.
+pub(crate) fn policy_line(text: &[u8], at: usize) -> Option<(Policy, usize)>
+    ensures { Reads policy_form text.now at (told policy_case result) }
+{
+    let next = key(text, at, POLICY)?;
+    policy_value(text, next)
 }
 
 // The link: delay, rate, loss and limit.

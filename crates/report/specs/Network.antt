@@ -4,15 +4,11 @@ use Rattle.std.specs.Float.{binary64}
 use Rattle.std.specs.Float.Ieee.{of_bits}
 use Rattle.draws.specs.declared.distribution.ContinuousDistribution.{ContinuousDistribution}
 use Rattle.draws.specs.declared.distribution.ContinuousDistribution.TheVariants as Distribution
-use Rattle.link.specs.declared.link.Limit.{Limit}
-use Rattle.link.specs.declared.link.Limit.TheVariants as Limit
 use Rattle.sender.specs.declared.lossy.Policy.{Policy}
 use Rattle.sender.specs.declared.lossy.Policy.TheVariants as Policy
 use Rattle.remy.specs.declared.network.ReturnLine.TheVariants as Back
 use Rattle.remy.specs.declared.network.RemyNetwork.{RemyNetwork}
 use Rattle.description.specs.declared.Description.{Description}
-use Rattle.description.specs.declared.Limit as L
-use Rattle.description.specs.declared.Limit.TheVariants as GivenLimit
 use Rattle.description.specs.declared.Distribution as D
 use Rattle.description.specs.declared.Distribution.TheVariants as GivenDistribution
 use Rattle.description.specs.declared.Policy as P
@@ -21,10 +17,6 @@ use Rattle.description.specs.declared.Policy.TheVariants as GivenPolicy
 -- the double of 64 bits; every pattern of a NaN is the one NaN
 abbrev pub double_of : ℕ → Float
 double_of bits = of_bits binary64 bits
-
-abbrev pub limit_of : L.Limit → Limit
-limit_of GivenLimit.None = Limit.None
-limit_of (GivenLimit.Bits n) = Limit.Bits n
 
 abbrev pub distribution_of : D.Distribution → ContinuousDistribution
 distribution_of (GivenDistribution.Always v) = Distribution.Always (double_of v)
@@ -39,7 +31,7 @@ policy_of (GivenPolicy.Timed m gap) = Policy.Timed m (double_of gap)
 abbrev pub network_of : Description → RemyNetwork
 network_of d =
     record {
-      line = record { delay = double_of d.delay; rate = double_of d.rate; loss = double_of d.loss; limit = limit_of d.limit };
+      line = record { delay = double_of d.delay; rate = double_of d.rate; loss = double_of d.loss; limit = d.limit };
       back = Back.None;
       bits = d.bits;
       senders = d.senders;

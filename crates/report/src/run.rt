@@ -48,14 +48,11 @@ fn begun(description: Description) -> Report
 pub fn report_of(text: &[u8]) -> Report
     ensures { ForText text.now (λ d. result ≡ report_of d) }
 {
-    let answer = description::read(text);
-    if answer.number != 0 {
-        let simulation = builder::empty_simulation();
-        return Report {
-            stage: Stage::Refused(answer.number),
-            simulation,
-        };
+    match description::read(text) {
+        Ok(description) => begun(description),
+        Err(malformed) => Report {
+            stage: Stage::Refused(malformed.number()),
+            simulation: builder::empty_simulation(),
+        },
     }
-    let description = answer.description;
-    begun(description)
 }

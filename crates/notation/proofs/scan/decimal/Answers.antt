@@ -8,7 +8,7 @@ use native.Mathlib.Omega.{arith}
 use lib.ListN.{length, get_or}
 use Rattle.notation.specs.Reading.{led_by_zero}
 use Rattle.notation.proofs.Written.{decimal_fair, run_spelt}
-use Rattle.notation.proofs.Numbers.{decimal, ended_too_large, ended_unspelt, ended_open, ended-found, some_within, some_led}
+use Rattle.notation.proofs.Numbers.{decimal, ended_too_large, ended_unspelt, ended_open, ended-found, some_led}
 use Rattle.notation.specs.InPlace.{InPlace}
 use Rattle.notation.proofs.scan.decimal.Code as code
 use Rattle.notation.proofs.scan.decimal.Goals as goal
@@ -18,11 +18,6 @@ pub returns-in_err-value : goal.returns-in_err-value
 returns-in_err-value c =
     let a = c.args in
     rw c.from_residual.ensures (ended_too_large (decimal a.most) a.end c.requires a.text.now a.at c.in_err-value.ensures)
-
-pub bounds-text-at : goal.bounds-text-at
-bounds-text-at c =
-    let p = c.in_ok-value.ensures in
-    some_within p.0 c.if-next-at.false
 
 pub returns-then-next-at : goal.returns-then-next-at
 returns-then-next-at c =
