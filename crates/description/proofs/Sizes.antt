@@ -6,7 +6,7 @@ use mathlib.Core.Logic.{◌⊎◌, inl, inr}
 use mathlib.Core.Path.{◌≡◌, refl, sym, ap, ◌∙◌, subst}
 use native.Mathlib.Omega.{arith}
 use lib.Dec.{ltb}
-use lib.ListN.{length, drop, take, set, replicate, length-append, length-take, length-drop}
+use lib.ListN.{length, drop, take, set, replicate, length-append, length-take}
 use lib.Seq.{set_out, take-set-lt, set-append_seam, take-append-le}
 use borrow.Author.Tests.{ltb-true, ltb-false}
 use Rattle.std.specs.Prelude.{Option, Some, None, unwrap_or}

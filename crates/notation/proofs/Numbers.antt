@@ -5,7 +5,7 @@ use mathlib.Core.Path.{◌≡◌, sym, ap, ◌∙◌}
 use native.Mathlib.Nat.{lt_of_lt_of_le, add-zero}
 use native.Mathlib.Omega.{arith}
 use lib.Dec.{lit≤}
-use lib.ListN.{length, drop, get_or, length-append, length-drop, get_or-append}
+use lib.ListN.{length, drop, get_or, length-append, get_or-append}
 use lib.Seq.{get_or-drop}
 use Rattle.notation.specs.Notation.{hex_of, decimal_of}
 use Rattle.notation.specs.Reading.{led_by_zero, Form, Found, Absent, Run, NoDigit, SomeDigits, NoDigits, word_form}
