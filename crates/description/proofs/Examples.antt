@@ -5,9 +5,9 @@ use mathlib.Core.Logic.{inr}
 use mathlib.Core.Path.{◌≡◌, refl}
 use lib.Dec.{lit<, lit≤}
 use lib.ListN.{length, replicate}
+use Rattle.std.specs.Prelude.{Some, None}
 use Rattle.notation.specs.Notation.{digit_byte, digits_of, hex_of, decimal_within, decimal_of}
 use Rattle.description.specs.Text.{Written, text_of, BitsInWidth, InWidth, places_of}
-use Rattle.description.specs.declared.Limit.TheVariants as L
 use Rattle.description.specs.declared.Distribution.TheVariants.{Always, Uniform}
 use Rattle.description.specs.declared.Policy.TheVariants.{Held, Timed}
 
@@ -42,7 +42,7 @@ example : text_of (record {
   delay = 0x3ff0_0000_0000_0000;
   rate = 0x4020_0000_0000_0000;
   loss = 0;
-  limit = L.Bits 8;
+  limit = Some 8;
   bits = 8 ∷ [];
   senders = 1;
   on = Always 0x4059_0000_0000_0000;
@@ -85,7 +85,7 @@ forms : text_of (record {
   delay = 0x3ff0_0000_0000_0000;
   rate = 0x4020_0000_0000_0000;
   loss = 0;
-  limit = L.None;
+  limit = None;
   bits = 12000 ∷ 6000 ∷ [];
   senders = 2;
   on = Uniform 0 0x3ff0_0000_0000_0000;
@@ -110,7 +110,7 @@ longest = record {
   delay = 0;
   rate = 0;
   loss = 0;
-  limit = L.Bits 18446744073709551615;
+  limit = Some 18446744073709551615;
   bits = replicate 254 9;
   senders = 254;
   on = Uniform 0 0;

@@ -1,11 +1,13 @@
 -- A form after a key, two forms one after the other, one or the other, and one with a further condition: what their readers answer. Assumes nothing.
-use Prim.Native.Nat.{ℕ}
+use Prim.Native.Nat.{ℕ, ◌<◌, ◌^◌}
 use mathlib.Core.List.{List, ◌++◌, append_assoc}
 use mathlib.Core.Logic.{◌⊎◌, inl, inr}
 use mathlib.Core.Path.{◌≡◌, sym, ap, ◌∙◌, subst}
 use native.Mathlib.Omega.{arith}
 use lib.ListN.{drop, length-append}
-use Rattle.notation.specs.Reading.{Form, ReadResult, found, refused, Reads, Found, Absent, word_form, keyed, pair, either}
+use Rattle.std.specs.Prelude.{Option, Some, None}
+use Rattle.notation.specs.Reading.{Form, Reads, Found, Absent, word_form, keyed, pair, either, Spells, SomeWord, NoWord}
+use Rattle.notation.proofs.Words.{key_other, key_none}
 use Rattle.description.specs.Lines.{such}
 
 -- a value of the first form, then one of the second
@@ -48,9 +50,17 @@ module _ {A : Type 0} {key : List ℕ} {text : List ℕ} {at : ℕ} where
         only = λ w rest e h. let u = p.only (tt, w) rest e (tt, h) in (ap (λ x. x.1) u.0, u.1);
       }
 
-  pub key_then : (F : Form A) {next : ℕ} → Found (word_form key) text at tt next → (o : ReadResult A) → Reads F text next o → Reads (keyed key F) text at o
-  key_then F f (found v last) g = key_found f g
-  key_then F f refused g = key_open f g
+  pub key_then : (F : Form A) {next : ℕ} → Found (word_form key) text at tt next → (o : Option (A × ℕ)) → Reads F text next o → Reads (keyed key F) text at o
+  key_then F f (Some r) g = key_found f g
+  key_then F f None g = key_open f g
+
+-- a word was read that is not the key, or there is no word
+module _ {A : Type 0} {text : List ℕ} {at key : ℕ} {w : List ℕ} (F : Form A) (r : Spells 0 w key) where
+  pub word_other : {v next : ℕ} → SomeWord text at v next → (v ≡ key → ⊥) → Absent (keyed w F) text at
+  word_other read other = key_absent F (key_other r read other)
+
+  pub word_none : NoWord text at → key < 2 ^ 64 → Absent (keyed w F) text at
+  word_none none h = key_absent F (key_none r none h)
 
 -- a value of the first form or of the second
 module _ {A B : Type 0} (F : Form A) (G : Form B) {text : List ℕ} {at : ℕ} where

@@ -5,10 +5,9 @@ use mathlib.Core.List.{List, [], ◌∷◌, ◌++◌, append_assoc}
 use Prim.Native.Nat.{ℕ, suc, ◌+◌, ◌*◌, ◌≤◌, ◌<◌, ◌^◌}
 use native.Mathlib.Omega.{arith}
 use lib.ListN.{length, length-append}
+use Rattle.std.specs.Prelude.{Option, Some, None}
 use Rattle.notation.specs.Notation.{lf, colon, hex_of, decimal_of}
 use Rattle.description.specs.Words.{delay_key, rate_key, loss_key, limit_key, bits_key, senders_key, on_key, off_key, policy_key, seed_key, ticks_key, always_key, uniform_key, held_key, grown_key, timed_key}
-use Rattle.description.specs.declared.Limit.{Limit}
-use Rattle.description.specs.declared.Limit.TheVariants as L
 use Rattle.description.specs.declared.Distribution.{Distribution}
 use Rattle.description.specs.declared.Distribution.TheVariants.{Always, Uniform}
 use Rattle.description.specs.declared.Policy.{Policy}
@@ -43,9 +42,9 @@ ended_64 v end h = decimal-ended 19 v end (omega (arith, h))
 
 -- ---- the lines that have cases
 
-limit-short : (l : Limit) → LimitInWidth l → length (limit_text l) ≤ 21
-limit-short L.None w = omega arith
-limit-short (L.Bits n) w = ended_64 n lf w
+limit-short : (l : Option ℕ) → LimitInWidth l → length (limit_text l) ≤ 21
+limit-short None w = omega arith
+limit-short (Some n) w = ended_64 n lf w
 
 distribution_short : (d : Distribution) → length (distribution_text d) ≤ 42
 distribution_short (Always v) = let h = both always_key (hex_of v ++ (lf ∷ [])) 7 17 (omega arith) (hex_ended v lf) in omega (arith, h)

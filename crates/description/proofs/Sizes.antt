@@ -6,15 +6,16 @@ use mathlib.Core.Logic.{◌⊎◌, inl, inr}
 use mathlib.Core.Path.{◌≡◌, refl, sym, ap, ◌∙◌, subst}
 use native.Mathlib.Omega.{arith}
 use lib.Dec.{ltb}
-use lib.ListN.{length, drop, take, set, replicate, length-append, length-take, length-drop}
+use lib.ListN.{length, drop, take, set, replicate, length-append, length-take}
 use lib.Seq.{set_out, take-set-lt, set-append_seam, take-append-le}
 use borrow.Author.Tests.{ltb-true, ltb-false}
+use Rattle.std.specs.Prelude.{Option, Some, None, unwrap_or}
 use Rattle.notation.specs.Notation.{lf, decimal_of}
-use Rattle.notation.specs.Reading.{Form, ReadResult, found, refused, Reads, Found, Absent, word_form, decimal_form, pair, either, keyed}
+use Rattle.notation.specs.Reading.{Form, Reads, told, Found, Absent, word_form, decimal_form, pair, either, keyed}
 use Rattle.description.specs.declared.lines.Sizes.{Sizes}
 use Rattle.description.specs.Words.{bits_key}
 use Rattle.description.specs.Text.{comma, bits_text, kept_of, places_of}
-use Rattle.description.specs.Lines.{most64, sizes_form, bits_form, with_value, sized, ReadsBits}
+use Rattle.description.specs.Lines.{most64, sizes_form, bits_form, with_value, sizes_of, ReadsBits}
 use Rattle.description.proofs.Forms.{pair-first, pair_second, pair_found, key_open, key_found, key_absent, either-none, either_first, either_second, such-absent, such-not, such-found}
 use Rattle.description.proofs.Cases.{comma_alone}
 
@@ -76,26 +77,18 @@ module _ {text : List ℕ} {at : ℕ} where
   pub last_absent : Absent (decimal_form most64 comma) text at → Absent last_form text at → Absent sizes_form text at
   last_absent none f = step_absent (either-none last_form more_form f (pair-first sizes_form none))
 
--- a value ends within the text
-pub value_within : (end : ℕ) {text : List ℕ} {at v next : ℕ} → Found (decimal_form most64 end) text at v next → (at < next) × (next ≤ length text)
-value_within end {text} {at} {v} {next} f =
-    let some = length-append (decimal_of v) (end ∷ []) in
-    let all = ap length f.here ∙ length-append (decimal_of v ++ (end ∷ [])) (drop next text) in
-    (omega (arith, f.count, some), omega (arith, f.count, some, all, length-drop at text, length-drop next text))
-
 -- what is read after so many values
-abbrev after : List ℕ → ReadResult (List ℕ) → ReadResult (List ℕ)
-after vs (found ws next) = found (vs ++ ws) next
-after vs refused = refused
+abbrev after : List ℕ → Option (List ℕ × ℕ) → Option (List ℕ × ℕ)
+after vs = told (λ ws. vs ++ ws)
 
-after_both : (vs ws : List ℕ) (o : ReadResult (List ℕ)) → after vs (after ws o) ≡ after (vs ++ ws) o
-after_both vs ws (found us next) = ap (λ (s : List ℕ). found s next) (sym (append_assoc vs ws us))
-after_both vs ws refused = refl
+after_both : (vs ws : List ℕ) (o : Option (List ℕ × ℕ)) → after vs (after ws o) ≡ after (vs ++ ws) o
+after_both vs ws (Some r) = ap (λ (s : List ℕ). Some (s, r.1)) (sym (append_assoc vs ws r.0))
+after_both vs ws None = refl
 
 value_then : {text : List ℕ} {at v next : ℕ} → Found (decimal_form most64 comma) text at v next
-    → (o : ReadResult (List ℕ)) → Reads sizes_form text next o → Reads sizes_form text at (after (v ∷ []) o)
-value_then f (found ws last) g = step_found (either_second last_form more_form (comma_alone f) (pair_found f g))
-value_then f refused g = step_absent (either-none last_form more_form (comma_alone f) (pair_second f g))
+    → (o : Option (List ℕ × ℕ)) → Reads sizes_form text next o → Reads sizes_form text at (after (v ∷ []) o)
+value_then f (Some r) g = step_found (either_second last_form more_form (comma_alone f) (pair_found f g))
+value_then f None g = step_absent (either-none last_form more_form (comma_alone f) (pair_second f g))
 
 -- ---- the values that are kept
 
@@ -127,21 +120,21 @@ places-more (u ∷ (w ∷ vs)) v h = refl
 
 -- ---- the values passed from one position on to another: what is read from here on is read after them
 
-pub record Passed (text : List ℕ) (from : ℕ) (s : Sizes) : Type 0 where
+pub record Passed (text : List ℕ) (from : ℕ) (s : Sizes) (last : ℕ) : Type 0 where
   pub values : List ℕ
   pub count : s.count ≡ length values
   pub kept : s.values ≡ kept_of values
-  pub far : from + s.count ≤ s.next
-  pub onward : (o : ReadResult (List ℕ)) → Reads sizes_form text s.next o → Reads sizes_form text from (after values o)
+  pub far : from + s.count ≤ last
+  pub onward : (o : Option (List ℕ × ℕ)) → Reads sizes_form text last o → Reads sizes_form text from (after values o)
 
-pub passed_none : (text : List ℕ) (from : ℕ) → Passed text from (record { count = 0; values = replicate 16 0; next = from })
+pub passed_none : (text : List ℕ) (from : ℕ) → Passed text from (record { count = 0; values = replicate 16 0 }) from
 passed_none text from = record { values = []; count = refl; kept = refl; far = omega arith; onward = same }
   where
-    same : (o : ReadResult (List ℕ)) → Reads sizes_form text from o → Reads sizes_form text from (after [] o)
-    same (found vs next) r = r
-    same refused r = r
+    same : (o : Option (List ℕ × ℕ)) → Reads sizes_form text from o → Reads sizes_form text from (after [] o)
+    same (Some r) g = g
+    same None g = g
 
-module _ {text : List ℕ} {from : ℕ} (s : Sizes) (p : Passed text from s) where
+module _ {text : List ℕ} {from : ℕ} (s : Sizes) {last : ℕ} (p : Passed text from s last) where
   -- a value more, whatever ends it
   kept_next : (v : ℕ) → set s.values s.count v ≡ kept_of (p.values ++ (v ∷ []))
   kept_next v = rw (p.kept, p.count) (kept_more p.values v)
@@ -149,7 +142,7 @@ module _ {text : List ℕ} {from : ℕ} (s : Sizes) (p : Passed text from s) whe
   count_next : (v : ℕ) → s.count + 1 ≡ length (p.values ++ (v ∷ []))
   count_next v = omega (arith, p.count, length-append p.values (v ∷ []))
 
-  pub passed-more : {v next : ℕ} → Found (decimal_form most64 comma) text s.next v next → Passed text from (with_value s v next)
+  pub passed-more : {v next : ℕ} → Found (decimal_form most64 comma) text last v next → Passed text from (with_value s v) next
   passed-more {v} {next} f = record {
     values = p.values ++ (v ∷ []);
     count = count_next v;
@@ -159,71 +152,74 @@ module _ {text : List ℕ} {from : ℕ} (s : Sizes) (p : Passed text from s) whe
   }
 
   -- where no value with a comma stands, the line ends with a value and LF or is no such line
-  module _ {at : ℕ} (key : Found (word_form bits_key) text at tt from) (none : Absent (decimal_form most64 comma) text s.next) where
-    pub bits_absent : Absent last_form text s.next → ReadsBits text at (sized refused)
-    bits_absent f = record { outcome = refused; reads = such-absent _ (key_open key (p.onward refused (last_absent none f))); answer = refl }
+  module _ {at : ℕ} (key : Found (word_form bits_key) text at tt from) (none : Absent (decimal_form most64 comma) text last) where
+    pub bits_absent : Absent last_form text last → ReadsBits text at None
+    bits_absent f = record { outcome = None; reads = such-absent _ (key_open key (p.onward None (last_absent none f))); answer = refl }
 
-    module _ {v next : ℕ} (f : Found last_form text s.next v next) where
+    module _ {v next : ℕ} (f : Found last_form text last v next) where
       whole : Found (keyed bits_key sizes_form) text at (p.values ++ (v ∷ [])) next
-      whole = key_found key (p.onward (found (v ∷ []) next) (last_found none f))
+      whole = key_found key (p.onward (Some (v ∷ [], next)) (last_found none f))
 
       -- the bytes of the line, its LF last
       pub line-length : next ≡ at + length (bits_text (p.values ++ (v ∷ []))) + 1
       line-length = omega (arith, whole.count, length-append (bits_text (p.values ++ (v ∷ []))) (lf ∷ []))
 
-      pub bits_long : 512 < next - at - 1 → ReadsBits text at (sized refused)
-      bits_long h = record { outcome = refused; reads = such-not _ whole (λ k. omega (arith, h, k, line-length)); answer = refl }
+      pub bits_long : 512 < next - at - 1 → ReadsBits text at None
+      bits_long h = record { outcome = None; reads = such-not _ whole (λ k. omega (arith, h, k, line-length)); answer = refl }
 
       module _ (h : next - at - 1 ≤ 512) where
         short : Found bits_form text at (p.values ++ (v ∷ [])) next
         short = such-found _ whole (omega (arith, h, line-length))
 
-        pub bits_one : s.count ≡ 0 → ReadsBits text at (record { count = 1; values = replicate 16 v; next = next })
+        pub bits_one : s.count ≡ 0 → ReadsBits text at (Some (record { count = 1; values = replicate 16 v }, next))
         bits_one e = record {
-          outcome = found (p.values ++ (v ∷ [])) next;
+          outcome = Some (p.values ++ (v ∷ []), next);
           reads = short;
-          answer = ap (λ (vs : List ℕ). sized (found (vs ++ (v ∷ [])) next)) (sym (empty p.values (sym p.count ∙ e)));
+          answer = ap (λ (vs : List ℕ). Some (sizes_of (vs ++ (v ∷ [])), next)) (sym (empty p.values (sym p.count ∙ e)));
         }
           where
             empty : (vs : List ℕ) → length vs ≡ 0 → vs ≡ []
             empty [] q = refl
             empty (u ∷ vs) q = absurd (omega (arith, q))
 
-        pub bits_many : (s.count ≡ 0 → ⊥) → ReadsBits text at (with_value s v next)
+        pub bits_many : (s.count ≡ 0 → ⊥) → ReadsBits text at (Some (with_value s v, next))
         bits_many e = record {
-          outcome = found (p.values ++ (v ∷ [])) next;
+          outcome = Some (p.values ++ (v ∷ []), next);
           reads = short;
-          answer = (λ i. record { count = count_next v i; values = (kept_next v ∙ sym (places-more p.values v (omega (arith, p.count, e)))) i; next = next });
+          answer = (λ i. Some (record { count = count_next v i; values = (kept_next v ∙ sym (places-more p.values v (omega (arith, p.count, e)))) i }, next));
         }
 
 -- where the line is none
-pub bits_none : {text : List ℕ} {at : ℕ} → Absent (word_form bits_key) text at → ReadsBits text at (sized refused)
-bits_none f = record { outcome = refused; reads = such-absent _ (key_absent sizes_form f); answer = refl }
+pub bits_none : {text : List ℕ} {at : ℕ} → Absent (word_form bits_key) text at → ReadsBits text at None
+bits_none f = record { outcome = None; reads = such-absent _ (key_absent sizes_form f); answer = refl }
 
--- ---- what the line's reader answers: no value where there is no line, else the line's
+-- ---- what the line's reader answers: the line's values, or that there is no line
 
-pub record SomeBits (text : List ℕ) (at : ℕ) (r : Sizes) : Type 0 where
+pub record SomeBits (text : List ℕ) (at : ℕ) (r : Sizes) (next : ℕ) : Type 0 where
   pub values : List ℕ
-  pub found : Found bits_form text at values r.next
+  pub found : Found bits_form text at values next
   pub count : r.count ≡ length values
   pub places : r.values ≡ places_of values
 
-module _ {text : List ℕ} {at : ℕ} {r : Sizes} (b : ReadsBits text at r) where
-  pub no_bits : r.count ≡ 0 → Absent bits_form text at
-  no_bits e = by b.outcome b.reads b.answer
+module _ {text : List ℕ} {at : ℕ} where
+  pub no_bits : ReadsBits text at None → Absent bits_form text at
+  no_bits b = by b.outcome b.reads b.answer
     where
-      by : (o : ReadResult (List ℕ)) → Reads bits_form text at o → r ≡ sized o → Absent bits_form text at
-      by (found vs next) g q = absurd (omega (arith, e, ap (λ x. x.count) q, g.fits.0.0))
-      by refused g q = g
+      by : (o : Option (List ℕ × ℕ)) → Reads bits_form text at o → None ≡ told sizes_of o → Absent bits_form text at
+      by (Some r) g q = cc
+      by None g q = g
 
-  pub some_bits : 0 < r.count → SomeBits text at r
-  some_bits h = by b.outcome b.reads b.answer
+  pub some_bits : {s : Sizes} {next : ℕ} → ReadsBits text at (Some (s, next)) → SomeBits text at s next
+  some_bits {s} {next} b = by b.outcome b.reads b.answer
     where
-      by : (o : ReadResult (List ℕ)) → Reads bits_form text at o → r ≡ sized o → SomeBits text at r
-      by (found vs next) g q = record {
-        values = vs;
-        found = subst (Found bits_form text at vs) (sym (ap (λ x. x.next) q)) g;
-        count = ap (λ x. x.count) q;
-        places = ap (λ x. x.values) q;
-      }
-      by refused g q = absurd (omega (arith, h, ap (λ x. x.count) q))
+      by : (o : Option (List ℕ × ℕ)) → Reads bits_form text at o → Some (s, next) ≡ told sizes_of o → SomeBits text at s next
+      by (Some r) g q =
+          let same : s ≡ sizes_of r.0 = ap (λ (o : Option (Sizes × ℕ)). (unwrap_or o (s, next)).0) q in
+          let end : next ≡ r.1 = ap (λ (o : Option (Sizes × ℕ)). (unwrap_or o (s, next)).1) q in
+          record {
+            values = r.0;
+            found = subst (Found bits_form text at r.0) (sym end) g;
+            count = ap (λ x. x.count) same;
+            places = ap (λ x. x.values) same;
+          }
+      by None g q = cc

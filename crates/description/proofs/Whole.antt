@@ -1,17 +1,19 @@
 -- The lines as a form are the text of what is written, and what `read` answers follows from what the lines' readers answer. Assumes nothing.
 use Prim.Native.Nat.{ℕ, ◌≤◌, ◌<◌}
+use mathlib.Core.Bool.{false≢true}
 use mathlib.Core.List.{List, [], ◌∷◌, ◌++◌, append_assoc, append-nil}
 use mathlib.Core.Logic.{◌⊎◌, inl, inr}
-use mathlib.Core.Path.{◌≡◌, refl, sym, ap, ◌∙◌}
+use mathlib.Core.Path.{◌≡◌, refl, sym, ap, ◌∙◌, subst}
 use native.Mathlib.Omega.{arith}
 use lib.ListN.{length, length-drop, drop_of_length-le}
+use Rattle.std.specs.Prelude.{Option, Some, None, Result, Ok, Err, IsErr}
+use Rattle.description.specs.declared.Description.{Description}
+use Rattle.description.specs.declared.Malformed.{Malformed}
 use Rattle.notation.specs.Notation.{lf}
 use Rattle.description.specs.Words.{none_line, delay_key, rate_key, loss_key, limit_key, senders_key, on_key, off_key, policy_key, seed_key, ticks_key}
 use Rattle.description.specs.Text.{Written, text_of, limit_text, bits_text, distribution_text, policy_text, InWidth, LimitInWidth, DistributionInWidth, PolicyInWidth, Counted, given, malformed, answer_of, ReadIs, double_text, whole_text}
 use Rattle.notation.specs.Reading.{Found, Absent, word_form, decimal_form, either}
 use Rattle.description.specs.Lines.{most64, WholeCases, limit_case, distribution_case, policy_case, always_form, uniform_form, held_form, grown_form, timed_form, limit_form, distribution_form, policy_form, whole_form}
-use Rattle.description.specs.declared.Limit.{Limit}
-use Rattle.description.specs.declared.Limit.TheVariants as L
 use Rattle.description.specs.declared.Distribution.{Distribution}
 use Rattle.description.specs.declared.Distribution.TheVariants.{Always, Uniform}
 use Rattle.description.specs.declared.Policy.{Policy}
@@ -49,9 +51,9 @@ cases_of w = (
 )
 
 -- what is written is known by its cases
-abbrev limit_on : Unit {0} ⊎ ℕ → Limit
-limit_on (inl u) = L.None
-limit_on (inr n) = L.Bits n
+abbrev limit_on : Unit {0} ⊎ ℕ → Option ℕ
+limit_on (inl u) = None
+limit_on (inr n) = Some n
 
 abbrev distribution_on : ℕ ⊎ (ℕ × ℕ) → Distribution
 distribution_on (inl v) = Always v
@@ -62,9 +64,9 @@ policy_on (inl w) = Held w
 policy_on (inr (inl p)) = Grown p.0 p.1
 policy_on (inr (inr p)) = Timed p.0 p.1
 
-limit-on : (x : Limit) → limit_on (limit_case x) ≡ x
-limit-on L.None = refl
-limit-on (L.Bits n) = refl
+limit-on : (x : Option ℕ) → limit_on (limit_case x) ≡ x
+limit-on None = refl
+limit-on (Some n) = refl
 
 distribution_on_lem : (x : Distribution) → distribution_on (distribution_case x) ≡ x
 distribution_on_lem (Always v) = refl
@@ -109,9 +111,9 @@ same_cases : (w u : Written) → cases_of w ≡ cases_of u → w ≡ u
 same_cases w u q = sym (written_on_lem w) ∙ ap written_on q ∙ written_on_lem u
 
 -- the text of each case
-limit-text : (x : Limit) → (either (word_form none_line) (decimal_form most64 lf)).text (limit_case x) ≡ limit_text x
-limit-text L.None = refl
-limit-text (L.Bits n) = refl
+limit-text : (x : Option ℕ) → (either (word_form none_line) (decimal_form most64 lf)).text (limit_case x) ≡ limit_text x
+limit-text None = refl
+limit-text (Some n) = refl
 
 distribution_text_lem : (x : Distribution) → (either always_form uniform_form).text (distribution_case x) ≡ distribution_text x
 distribution_text_lem (Always v) = refl
@@ -149,13 +151,13 @@ whole-text w =
     ++ whole_text ticks_key w.ticks lf)
 
 -- the widths of each case
-limit-fits : (x : Limit) → LimitInWidth x → limit_form.fits (limit_case x)
-limit-fits L.None h = tt
-limit-fits (L.Bits n) h = omega arith
+limit-fits : (x : Option ℕ) → LimitInWidth x → limit_form.fits (limit_case x)
+limit-fits None h = tt
+limit-fits (Some n) h = omega arith
 
-limit_fitted : (x : Limit) → limit_form.fits (limit_case x) → LimitInWidth x
-limit_fitted L.None h = tt
-limit_fitted (L.Bits n) h = omega arith
+limit_fitted : (x : Option ℕ) → limit_form.fits (limit_case x) → LimitInWidth x
+limit_fitted None h = tt
+limit_fitted (Some n) h = omega arith
 
 distribution_fits : (key : List ℕ) (x : Distribution) → DistributionInWidth x → (distribution_form key).fits (distribution_case x)
 distribution_fits key (Always v) h = h
@@ -220,10 +222,19 @@ module _ (text : List ℕ) where
 
   pub read-malformed : ((w : Written) → text ≡ text_of w → InWidth w → ⊥) → ReadIs text (answer_of malformed)
   unfolding answer_of
-  read-malformed none = record { sound = λ e. absurd (omega (arith, e)); complete = λ w e h. absurd (none w e h); other = λ _. refl }
+  read-malformed none = record { sound = λ d e. absurd (cc); complete = λ w e h. absurd (none w e h); other = λ _. refl }
 
   pub read-absent : Absent whole_form text 0 → ReadIs text (answer_of malformed)
   read-absent f = read-malformed (λ w e h. f.none (cases_of w) [] (in_form w e) (whole-fits w h))
+
+  -- what is refused is malformed
+  pub refused-read : {r : Result Description Malformed} → IsErr r → Absent whole_form text 0 → ReadIs text r
+  unfolding answer_of
+  refused-read {r} e f = subst (ReadIs text) (sym (by r e)) (read-absent f)
+    where
+      by : (o : Result Description Malformed) → IsErr o → o ≡ answer_of malformed
+      by (Ok d) h = absurd (false≢true h)
+      by (Err m) h = refl
 
   pub read-long : (v : WholeCases) (next : ℕ) → Found whole_form text 0 v next → next < length text → ReadIs text (answer_of malformed)
   read-long v next f l =
@@ -237,7 +248,7 @@ module _ (text : List ℕ) where
       let here : text ≡ text_of w =
       f.here ∙ ap (λ (s : List ℕ). whole_form.text (cases_of w) ++ s) (drop_of_length-le text l) ∙ append-nil (whole_form.text (cases_of w)) ∙ whole-text w in
       record {
-        sound = λ _. (w, here, whole_fitted w f.fits, refl);
+        sound = λ _ _. (w, here, whole_fitted w f.fits, refl);
         complete = λ u e h. ap (λ (x : Written). answer_of (given x)) (sym (same_cases u w (f.only (cases_of u) [] (in_form u e) (whole-fits u h)).0));
         other = λ nothing. absurd (nothing w here (whole_fitted w f.fits));
       }

@@ -1,12 +1,10 @@
--- The lines of a description as forms, and the answers of the functions that read them as outcomes. Definitions only.
-use Rattle.std.specs.Prelude.{ℕ, ◌+◌, ◌-◌, ◌^◌, ◌≤◌, ◌<◌, Bool, true, false, List, [], ◌∷◌, ◌++◌, ◌⊎◌, ◌≡◌, length, set, replicate}
+-- The lines of a description as forms, and the cases of a form that what was read is. Definitions only.
+use Rattle.std.specs.Prelude.{ℕ, ◌+◌, ◌-◌, ◌^◌, ◌≤◌, ◌<◌, Bool, true, false, List, [], ◌∷◌, ◌++◌, Option, Some, None, ◌⊎◌, ◌≡◌, length, set}
 use Rattle.std.proofs.Common.{inl, inr}
 use Rattle.notation.specs.Notation.{lf, colon}
 use Rattle.description.specs.Words.{delay_key, rate_key, loss_key, limit_key, bits_key, senders_key, on_key, off_key, policy_key, seed_key, ticks_key, none_line, always_key, uniform_key, held_key, grown_key, timed_key}
 use Rattle.description.specs.Text.{joined, bits_text, BitsInWidth, Counted, places_of}
-use Rattle.notation.specs.Reading.{Form, ReadResult, found, refused, Reads, word_form, hex_form, decimal_form, keyed, pair, either, Spells}
-use Rattle.description.specs.declared.Limit.{Limit}
-use Rattle.description.specs.declared.Limit.TheVariants as L
+use Rattle.notation.specs.Reading.{Form, Reads, told, word_form, hex_form, decimal_form, keyed, pair, either, Spells}
 use Rattle.description.specs.declared.Distribution.{Distribution}
 use Rattle.description.specs.declared.Distribution.TheVariants.{Always, Uniform}
 use Rattle.description.specs.declared.Policy.{Policy}
@@ -18,20 +16,6 @@ use Rattle.description.specs.declared.lines.Load.{Load}
 use Rattle.description.specs.declared.lines.Course.{Course}
 use Rattle.description.specs.declared.lines.Kind.{Kind}
 use Rattle.description.specs.declared.lines.Kind.TheVariants as E
-use Rattle.description.specs.declared.lines.Two.{Two}
-use Rattle.description.specs.declared.lines.Two.TheVariants as W
-use Rattle.description.specs.declared.lines.LimitAt.{LimitAt}
-use Rattle.description.specs.declared.lines.LimitAt.TheVariants as M
-use Rattle.description.specs.declared.lines.DistributionAt.{DistributionAt}
-use Rattle.description.specs.declared.lines.DistributionAt.TheVariants as D
-use Rattle.description.specs.declared.lines.PolicyAt.{PolicyAt}
-use Rattle.description.specs.declared.lines.PolicyAt.TheVariants as Q
-use Rattle.description.specs.declared.lines.LinkAt.{LinkAt}
-use Rattle.description.specs.declared.lines.LinkAt.TheVariants as K
-use Rattle.description.specs.declared.lines.LoadAt.{LoadAt}
-use Rattle.description.specs.declared.lines.LoadAt.TheVariants as O
-use Rattle.description.specs.declared.lines.CourseAt.{CourseAt}
-use Rattle.description.specs.declared.lines.CourseAt.TheVariants as C
 
 -- what is said of each word that a number is the value of
 abbrev pub ForWord : ℕ → (List ℕ → Type 0) → Type 0
@@ -65,9 +49,9 @@ two_form first second = pair (kind_form first colon) (kind_form second lf)
 abbrev pub limit_form : Form (Unit {0} ⊎ ℕ)
 limit_form = keyed limit_key (either (word_form none_line) (decimal_form most64 lf))
 
-abbrev pub limit_case : Limit → Unit {0} ⊎ ℕ
-limit_case L.None = inl tt
-limit_case (L.Bits n) = inr n
+abbrev pub limit_case : Option ℕ → Unit {0} ⊎ ℕ
+limit_case None = inl tt
+limit_case (Some n) = inr n
 
 -- bits
 abbrev pub sizes_form : Form (List ℕ)
@@ -103,8 +87,11 @@ grown_form = keyed grown_key (two_form (E.Whole most32) (E.Whole most32))
 abbrev pub timed_form : Form (ℕ × ℕ)
 timed_form = keyed timed_key (two_form (E.Whole most32) E.Double)
 
+abbrev pub policy_value : Form (ℕ ⊎ ((ℕ × ℕ) ⊎ (ℕ × ℕ)))
+policy_value = either held_form (either grown_form timed_form)
+
 abbrev pub policy_form : Form (ℕ ⊎ ((ℕ × ℕ) ⊎ (ℕ × ℕ)))
-policy_form = keyed policy_key (either held_form (either grown_form timed_form))
+policy_form = keyed policy_key policy_value
 
 abbrev pub policy_case : Policy → ℕ ⊎ ((ℕ × ℕ) ⊎ (ℕ × ℕ))
 policy_case (Held w) = inl w
@@ -118,11 +105,17 @@ LinkCases = ℕ × (ℕ × (ℕ × (Unit {0} ⊎ ℕ)))
 abbrev pub link_form : Form LinkCases
 link_form = pair (keyed delay_key (hex_form lf)) (pair (keyed rate_key (hex_form lf)) (pair (keyed loss_key (hex_form lf)) limit_form))
 
+abbrev pub link_case : Link → LinkCases
+link_case k = (k.delay, (k.rate, (k.loss, limit_case k.limit)))
+
 abbrev pub LoadCases : Type 0
 LoadCases = ℕ × ((ℕ ⊎ (ℕ × ℕ)) × (ℕ ⊎ (ℕ × ℕ)))
 
 abbrev pub load_form : Form LoadCases
 load_form = pair (keyed senders_key (decimal_form most32 lf)) (pair (distribution_form on_key) (distribution_form off_key))
+
+abbrev pub load_case : Load → LoadCases
+load_case o = (o.senders, (distribution_case o.on, distribution_case o.off))
 
 abbrev pub CourseCases : Type 0
 CourseCases = (ℕ ⊎ ((ℕ × ℕ) ⊎ (ℕ × ℕ))) × (ℕ × ℕ)
@@ -130,47 +123,20 @@ CourseCases = (ℕ ⊎ ((ℕ × ℕ) ⊎ (ℕ × ℕ))) × (ℕ × ℕ)
 abbrev pub course_form : Form CourseCases
 course_form = pair policy_form (pair (keyed seed_key (decimal_form most64 lf)) (keyed ticks_key (decimal_form 65536 lf)))
 
--- the answers as outcomes
-abbrev pub twofold : Two → ReadResult (ℕ × ℕ)
-twofold (W.At a b next) = found (a, b) next
-twofold W.Refused = refused
+abbrev pub course_case : Course → CourseCases
+course_case c = (policy_case c.policy, (c.seed, c.ticks))
 
-abbrev pub limited : LimitAt → ReadResult (Unit {0} ⊎ ℕ)
-limited (M.At v next) = found (limit_case v) next
-limited M.Refused = refused
+-- the values of `bits` with one more; those of a line
+abbrev pub with_value : Sizes → ℕ → Sizes
+with_value s v = record { count = s.count + 1; values = set s.values s.count v }
 
-abbrev pub distributed : DistributionAt → ReadResult (ℕ ⊎ (ℕ × ℕ))
-distributed (D.At v next) = found (distribution_case v) next
-distributed D.Refused = refused
+abbrev pub sizes_of : List ℕ → Sizes
+sizes_of vs = record { count = length vs; values = places_of vs }
 
-abbrev pub governed : PolicyAt → ReadResult (ℕ ⊎ ((ℕ × ℕ) ⊎ (ℕ × ℕ)))
-governed (Q.At v next) = found (policy_case v) next
-governed Q.Refused = refused
-
-abbrev pub linked : LinkAt → ReadResult LinkCases
-linked (K.At v next) = found (v.delay, (v.rate, (v.loss, limit_case v.limit))) next
-linked K.Refused = refused
-
-abbrev pub loaded : LoadAt → ReadResult LoadCases
-loaded (O.At v next) = found (v.senders, (distribution_case v.on, distribution_case v.off)) next
-loaded O.Refused = refused
-
-abbrev pub coursed : CourseAt → ReadResult CourseCases
-coursed (C.At v next) = found (policy_case v.policy, (v.seed, v.ticks)) next
-coursed C.Refused = refused
-
--- the values of `bits` with one more; the answer for the values of the line, and for what is no such line
-abbrev pub with_value : Sizes → ℕ → ℕ → Sizes
-with_value s v next = record { count = s.count + 1; values = set s.values s.count v; next = next }
-
-abbrev pub sized : ReadResult (List ℕ) → Sizes
-sized (found vs next) = record { count = length vs; values = places_of vs; next = next }
-sized refused = record { count = 0; values = replicate 16 0; next = 0 }
-
-pub record ReadsBits (text : List ℕ) (at : ℕ) (r : Sizes) : Type 0 where
-  pub outcome : ReadResult (List ℕ)
+pub record ReadsBits (text : List ℕ) (at : ℕ) (r : Option (Sizes × ℕ)) : Type 0 where
+  pub outcome : Option (List ℕ × ℕ)
   pub reads : Reads bits_form text at outcome
-  pub answer : r ≡ sized outcome
+  pub answer : r ≡ told sizes_of outcome
 
 -- the whole description
 abbrev pub WholeCases : Type 0

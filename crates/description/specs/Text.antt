@@ -1,23 +1,21 @@
 -- The text of a description (document 01, "The text program"). Definitions only.
 -- A text is the list of its bytes.
-use Rattle.std.specs.Prelude.{ℕ, ◌^◌, ◌≤◌, ◌<◌, List, [], ◌∷◌, ◌++◌, ◌⊎◌, ◌≡◌, length, take, replicate}
+use Rattle.std.specs.Prelude.{ℕ, ◌^◌, ◌≤◌, ◌<◌, List, [], ◌∷◌, ◌++◌, Option, Some, None, Result, Ok, Err, ◌⊎◌, ◌≡◌, length, take, replicate}
 use Rattle.notation.specs.Notation.{lf, colon, hex_of, decimal_of}
 use Rattle.description.specs.Words.{delay_key, rate_key, loss_key, limit_key, bits_key, senders_key, on_key, off_key, policy_key, seed_key, ticks_key, none_line, always_key, uniform_key, held_key, grown_key, timed_key}
-use Rattle.description.specs.declared.Limit.{Limit}
-use Rattle.description.specs.declared.Limit.TheVariants as L
 use Rattle.description.specs.declared.Distribution.{Distribution}
 use Rattle.description.specs.declared.Distribution.TheVariants.{Always, Uniform}
 use Rattle.description.specs.declared.Policy.{Policy}
 use Rattle.description.specs.declared.Policy.TheVariants.{Held, Grown, Timed}
 use Rattle.description.specs.declared.Description.{Description}
-use Rattle.description.specs.declared.ReadDescription.{ReadDescription}
+use Rattle.description.specs.declared.Malformed.{Malformed}
 
 -- what a text says: the values of its lines, one or more in `bits`
 pub record Written : Type 0 where
   pub delay : ℕ
   pub rate : ℕ
   pub loss : ℕ
-  pub limit : Limit
+  pub limit : Option ℕ
   pub bits : List ℕ
   pub senders : ℕ
   pub on : Distribution
@@ -34,9 +32,9 @@ abbrev pub whole_text : List ℕ → ℕ → ℕ → List ℕ
 whole_text key v end = key ++ (decimal_of v ++ (end ∷ []))
 
 -- limit: `none` or bits
-abbrev pub limit_text : Limit → List ℕ
-limit_text L.None = none_line
-limit_text (L.Bits n) = decimal_of n ++ (lf ∷ [])
+abbrev pub limit_text : Option ℕ → List ℕ
+limit_text None = none_line
+limit_text (Some n) = decimal_of n ++ (lf ∷ [])
 
 -- bits: values joined by commas (document 02, K1)
 abbrev pub comma : ℕ
@@ -78,9 +76,9 @@ text_of w =
     ++ whole_text ticks_key w.ticks lf
 
 -- doubles, limit, bits and seed have 64 bits, other whole numbers 32; ticks are at most 65,536
-abbrev pub LimitInWidth : Limit → Type 0
-LimitInWidth L.None = Unit
-LimitInWidth (L.Bits n) = n < 2 ^ 64
+abbrev pub LimitInWidth : Option ℕ → Type 0
+LimitInWidth None = Unit
+LimitInWidth (Some n) = n < 2 ^ 64
 
 abbrev pub BitsInWidth : List ℕ → Type 0
 BitsInWidth [] = Unit
@@ -140,34 +138,18 @@ description_of w = record {
   ticks = w.ticks;
 }
 
--- the description of a text that is none
-abbrev pub blank_description : Description
-blank_description = record {
-  delay = 0;
-  rate = 0;
-  loss = 0;
-  limit = L.None;
-  bits = replicate 16 0;
-  senders = 0;
-  on = Always 0;
-  off = Always 0;
-  policy = Held 0;
-  seed = 0;
-  ticks = 0;
-}
-
 -- what a text is read as
 pub data ReadAs : Type 0 where
   given : Written → ReadAs
   malformed : ReadAs
 
--- document 01's number (table of stops) and the values of each answer
-unfoldable pub answer_of : ReadAs → ReadDescription
-answer_of (given w) = record { number = 0; description = description_of w }
-answer_of malformed = record { number = 15; description = blank_description }
+-- the answer for each
+unfoldable pub answer_of : ReadAs → Result Description Malformed
+answer_of (given w) = Ok (description_of w)
+answer_of malformed = Err (record {})
 
 -- what is given is what the text says, every text of values in their widths is given, and anything else is malformed
-pub record ReadIs (text : List ℕ) (r : ReadDescription) : Type 0 where
-  pub sound : r.number ≡ 0 → (w : Written) × (text ≡ text_of w) × InWidth w × (r ≡ answer_of (given w))
+pub record ReadIs (text : List ℕ) (r : Result Description Malformed) : Type 0 where
+  pub sound : (d : Description) → r ≡ Ok d → (w : Written) × (text ≡ text_of w) × InWidth w × (r ≡ answer_of (given w))
   pub complete : (w : Written) → text ≡ text_of w → InWidth w → r ≡ answer_of (given w)
   pub other : ((w : Written) → text ≡ text_of w → InWidth w → ⊥) → r ≡ answer_of malformed

@@ -2,21 +2,12 @@
 #![tactic(auto)]
 
 ghost use Rattle.std.specs.Prelude.{◌≡◌};
-ghost use Rattle.description.specs.Text.{ReadIs, answer_of, malformed};
+ghost use Rattle.description.specs.Text.{ReadIs};
 ghost use Rattle.description.specs.Lines.{gathered_of};
 
 mod lines;
 
-use lines::{
-    Course, CourseAt, Link, LinkAt, Load, LoadAt, bits_line, counted, course_lines, link_lines,
-    load_lines,
-};
-
-#[derive(Clone, Copy)]
-pub enum Limit {
-    None,
-    Bits(u64),
-}
+use lines::{Course, Link, Load, bits_line, counted, course_lines, link_lines, load_lines};
 
 // A double is held as its 64 bits.
 #[derive(Clone, Copy)]
@@ -32,12 +23,13 @@ pub enum Policy {
     Timed(u32, u64),
 }
 
+// A limit of `None` is that of a queue with no limit.
 #[derive(Clone, Copy)]
 pub struct Description {
     pub delay: u64,
     pub rate: u64,
     pub loss: u64,
-    pub limit: Limit,
+    pub limit: Option<u64>,
     pub bits: [u64; 16],
     pub senders: u32,
     pub on: Distribution,
@@ -47,90 +39,51 @@ pub struct Description {
     pub ticks: u32,
 }
 
-// The number is 0 with the description of a text, and 15 with a blank one.
+// A text that is no description.
 #[derive(Clone, Copy)]
-pub struct ReadDescription {
-    pub number: u32,
-    pub description: Description,
+pub struct Malformed;
+
+impl Malformed {
+    // Its number in the table of stops.
+    pub fn number(self) -> u32
+        ensures { result ≡ 15 }
+    {
+        15
+    }
 }
 
 // The description of the three groups of lines and the packet bits.
 fn gathered(link: Link, bits: [u64; 16], load: Load, course: Course) -> Description
     ensures { result ≡ gathered_of link bits load course }
 {
-    let limit = link.limit;
-    let on = load.on;
-    let off = load.off;
-    let policy = course.policy;
     Description {
         delay: link.delay,
         rate: link.rate,
         loss: link.loss,
-        limit,
+        limit: link.limit,
         bits,
         senders: load.senders,
-        on,
-        off,
-        policy,
+        on: load.on,
+        off: load.off,
+        policy: course.policy,
         seed: course.seed,
         ticks: course.ticks,
     }
 }
 
-// The answer for a text that is no description.
-fn refused() -> ReadDescription
-    ensures { result ≡ answer_of malformed }
-{
-    let description = Description {
-        delay: 0,
-        rate: 0,
-        loss: 0,
-        limit: Limit::None,
-        bits: [0; 16],
-        senders: 0,
-        on: Distribution::Always(0),
-        off: Distribution::Always(0),
-        policy: Policy::Held(0),
-        seed: 0,
-        ticks: 0,
-    };
-    ReadDescription {
-        number: 15,
-        description,
-    }
-}
-
 // The description that a text is. Anything else is malformed, bytes after the last line included.
-pub fn read(text: &[u8]) -> ReadDescription
+pub fn read(text: &[u8]) -> Result<Description, Malformed>
     ensures { ReadIs text.now result }
 {
-    match link_lines(text, 0) {
-        LinkAt::At(link, a) => {
-            let sizes = bits_line(text, a);
-            if sizes.count == 0 {
-                return refused();
-            }
-            match load_lines(text, sizes.next) {
-                LoadAt::At(load, b) => match course_lines(text, b) {
-                    CourseAt::At(course, end) => {
-                        if !counted(sizes.count, load.senders) {
-                            return refused();
-                        }
-                        if end < text.len() {
-                            return refused();
-                        }
-                        let bits = sizes.values;
-                        let description = gathered(link, bits, load, course);
-                        ReadDescription {
-                            number: 0,
-                            description,
-                        }
-                    }
-                    CourseAt::Refused => refused(),
-                },
-                LoadAt::Refused => refused(),
-            }
-        }
-        LinkAt::Refused => refused(),
+    let (link, next) = link_lines(text, 0).ok_or(Malformed)?;
+    let (sizes, next) = bits_line(text, next).ok_or(Malformed)?;
+    let (load, next) = load_lines(text, next).ok_or(Malformed)?;
+    let (course, end) = course_lines(text, next).ok_or(Malformed)?;
+    if !counted(sizes.count, load.senders) {
+        return Err(Malformed);
     }
+    if end < text.len() {
+        return Err(Malformed);
+    }
+    Ok(gathered(link, sizes.values, load, course))
 }

@@ -1,16 +1,16 @@
-// The lines of a description.
+// The lines of a description. A reader answers what it read and the position after it.
+#![tactic(auto, using(crate::proofs::Cases::lf_ends, crate::proofs::Cases::colon_ends, crate::proofs::Cases::comma_ends))]
+
 ghost use Rattle.std.specs.Prelude.{◌+◌, ◌^◌, ◌≤◌, ◌<◌, [], ◌∷◌, ◌≡◌};
-ghost use Rattle.notation.specs.Reading.{Reads, NoDigit, numbered, keyed};
+ghost use Rattle.notation.specs.Reading.{Reads, NoDigit, told, keyed};
 ghost use Rattle.description.specs.Text.{Counted};
-ghost use Rattle.description.specs.Lines.{ForWord, Tells, twofold, limited, distributed, governed, linked, loaded, coursed, with_value, ReadsBits, kind_form, two_form, limit_form, distribution_value, distribution_form, policy_form, link_form, load_form, course_form};
+ghost use Rattle.description.specs.Lines.{ForWord, Tells, limit_case, distribution_case, policy_case, link_case, load_case, course_case, with_value, ReadsBits, kind_form, two_form, limit_form, distribution_value, distribution_form, policy_value, policy_form, link_form, load_form, course_form};
 
-use crate::{Distribution, Limit, Policy};
-use notation::scan::{Number, Place, decimal, hex16, key, word};
+use crate::{Distribution, Policy};
+use notation::scan::{decimal, hex16, key, word};
 
-// The greatest numbers of 64 and of 32 bits.
-pub const MOST64: u64 = 0xffff_ffff_ffff_ffff;
-
-pub const MOST32: u64 = 0xffff_ffff;
+// The greatest number of 32 bits.
+pub const MOST32: u64 = u32::MAX as u64;
 
 // Ticks are at most this.
 pub const MOST_TICKS: u64 = 65536;
@@ -18,7 +18,8 @@ pub const MOST_TICKS: u64 = 65536;
 // The `bits` line has at most so many bytes without its LF.
 pub const MOST_LINE: usize = 512;
 
-// The words of a description, each as the number that has its bytes for its digits to the base 256.
+// The words of a description, each as the number that has its bytes for its digits to the base 256. A byte
+// string is an array of the function that has it, and by `in_place` no reader of a word has one.
 pub const DELAY: u64 = 0x64_65_6c_61_79_3d; // delay=
 
 pub const RATE: u64 = 0x72_61_74_65_3d; // rate=
@@ -53,31 +54,6 @@ pub const SEED: u64 = 0x73_65_65_64_3d; // seed=
 
 pub const TICKS: u64 = 0x74_69_63_6b_73_3d; // ticks=
 
-// Two numbers, and the position after them.
-#[derive(Clone, Copy)]
-pub enum Two {
-    At(u64, u64, usize),
-    Refused,
-}
-
-#[derive(Clone, Copy)]
-pub enum LimitAt {
-    At(Limit, usize),
-    Refused,
-}
-
-#[derive(Clone, Copy)]
-pub enum DistributionAt {
-    At(Distribution, usize),
-    Refused,
-}
-
-#[derive(Clone, Copy)]
-pub enum PolicyAt {
-    At(Policy, usize),
-    Refused,
-}
-
 // How a number is written: as a double, or whole and at most a given number.
 #[derive(Clone, Copy)]
 pub enum Kind {
@@ -88,9 +64,9 @@ pub enum Kind {
 // A number, and the byte that ends it.
 //
 // A helper within this crate: the caller gives an end that is no digit.
-pub(crate) fn ended(text: &[u8], at: usize, kind: Kind, end: u8) -> Number
+pub(crate) fn ended(text: &[u8], at: usize, kind: Kind, end: u8) -> Option<(u64, usize)>
     requires { NoDigit 16 (end ∷ []) }
-    ensures { Reads (kind_form kind end) text.now at (numbered result) }
+    ensures { Reads (kind_form kind end) text.now at result }
 {
     match kind {
         Kind::Double => hex16(text, at, end),
@@ -101,118 +77,87 @@ pub(crate) fn ended(text: &[u8], at: usize, kind: Kind, end: u8) -> Number
 // A word, a number, and the byte that ends it.
 //
 // A helper within this crate: the caller gives the value of a word, and an end that is no digit.
-pub(crate) fn value(text: &[u8], at: usize, word: u64, kind: Kind, end: u8) -> Number
+pub(crate) fn value(text: &[u8], at: usize, word: u64, kind: Kind, end: u8) -> Option<(u64, usize)>
     requires { NoDigit 16 (end ∷ []) }
-    ensures { ForWord word (λ w. Reads (keyed w (kind_form kind end)) text.now at (numbered result)) }
+    ensures { ForWord word (λ w. Reads (keyed w (kind_form kind end)) text.now at result) }
 {
-    match key(text, at, word) {
-        Place::At(next) => ended(text, next, kind, end),
-        Place::Refused => Number::Refused,
-    }
+    let next = key(text, at, word)?;
+    ended(text, next, kind, end)
 }
 
 // Two numbers: `n:n`.
-pub(crate) fn both(text: &[u8], at: usize, first: Kind, second: Kind) -> Two
-    ensures { Reads (two_form first second) text.now at (twofold result) }
+pub(crate) fn both(text: &[u8], at: usize, first: Kind, second: Kind) -> Option<((u64, u64), usize)>
+    ensures { Reads (two_form first second) text.now at result }
 {
-    match ended(text, at, first, b':') {
-        Number::At(a, next) => match ended(text, next, second, b'\n') {
-            Number::At(b, last) => Two::At(a, b, last),
-            Number::Refused => Two::Refused,
-        },
-        Number::Refused => Two::Refused,
-    }
+    let (a, next) = ended(text, at, first, b':')?;
+    let (b, next) = ended(text, next, second, b'\n')?;
+    Some(((a, b), next))
 }
 
 // limit: `none` or bits.
-pub(crate) fn limit_line(text: &[u8], at: usize) -> LimitAt
-    ensures { Reads limit_form text.now at (limited result) }
+pub(crate) fn limit_line(text: &[u8], at: usize) -> Option<(Option<u64>, usize)>
+    ensures { Reads limit_form text.now at (told limit_case result) }
 {
-    match key(text, at, LIMIT) {
-        Place::At(from) => match ended(text, from, Kind::Whole(MOST64), b'\n') {
-            Number::At(bits, next) => LimitAt::At(Limit::Bits(bits), next),
-            Number::Refused => match key(text, from, NONE) {
-                Place::At(next) => LimitAt::At(Limit::None, next),
-                Place::Refused => LimitAt::Refused,
-            },
-        },
-        Place::Refused => LimitAt::Refused,
+    let from = key(text, at, LIMIT)?;
+    if let Some((bits, next)) = ended(text, from, Kind::Whole(u64::MAX), b'\n') {
+        return Some((Some(bits), next));
     }
+    let next = key(text, from, NONE)?;
+    Some((None, next))
 }
 
 // The value of on and off: `always:h` or `uniform:h:h`. The first word tells which.
-pub(crate) fn distribution_value(text: &[u8], at: usize) -> DistributionAt
-    ensures { Reads distribution_value text.now at (distributed result) }
+pub(crate) fn distribution_value(text: &[u8], at: usize) -> Option<(Distribution, usize)>
+    ensures { Reads distribution_value text.now at (told distribution_case result) }
 {
-    match word(text, at) {
-        Number::At(first, next) => {
-            if first == ALWAYS {
-                return match ended(text, next, Kind::Double, b'\n') {
-                    Number::At(v, last) => DistributionAt::At(Distribution::Always(v), last),
-                    Number::Refused => DistributionAt::Refused,
-                };
-            }
-            if first == UNIFORM {
-                return match both(text, next, Kind::Double, Kind::Double) {
-                    Two::At(min, max, last) => DistributionAt::At(
-                        Distribution::Uniform(min, max),
-                        last,
-                    ),
-                    Two::Refused => DistributionAt::Refused,
-                };
-            }
-            DistributionAt::Refused
-        }
-        Number::Refused => DistributionAt::Refused,
+    let (first, next) = word(text, at)?;
+    if first == ALWAYS {
+        let (v, next) = ended(text, next, Kind::Double, b'\n')?;
+        return Some((Distribution::Always(v), next));
     }
+    if first == UNIFORM {
+        let ((min, max), next) = both(text, next, Kind::Double, Kind::Double)?;
+        return Some((Distribution::Uniform(min, max), next));
+    }
+    None
 }
 
 // on or off.
 //
 // A helper within this crate: the caller gives the value of a word.
-pub(crate) fn distribution_line(text: &[u8], at: usize, word: u64) -> DistributionAt
-    ensures { ForWord word (λ w. Reads (distribution_form w) text.now at (distributed result)) }
+pub(crate) fn distribution_line(text: &[u8], at: usize, word: u64) -> Option<(Distribution, usize)>
+    ensures { ForWord word (λ w. Reads (distribution_form w) text.now at (told distribution_case result)) }
 {
-    match key(text, at, word) {
-        Place::At(next) => distribution_value(text, next),
-        Place::Refused => DistributionAt::Refused,
-    }
+    let next = key(text, at, word)?;
+    distribution_value(text, next)
 }
 
-// policy: `held:w`, `grown:f:m` or `timed:m:h`. The first word of the value tells which.
-pub(crate) fn policy_line(text: &[u8], at: usize) -> PolicyAt
-    ensures { Reads policy_form text.now at (governed result) }
+// The value of policy: `held:w`, `grown:f:m` or `timed:m:h`. The first word tells which.
+pub(crate) fn policy_value(text: &[u8], at: usize) -> Option<(Policy, usize)>
+    ensures { Reads policy_value text.now at (told policy_case result) }
 {
-    match key(text, at, POLICY) {
-        Place::At(from) => match word(text, from) {
-            Number::At(first, next) => {
-                if first == HELD {
-                    return match ended(text, next, Kind::Whole(MOST32), b'\n') {
-                        Number::At(w, last) => PolicyAt::At(Policy::Held(w as u32), last),
-                        Number::Refused => PolicyAt::Refused,
-                    };
-                }
-                if first == GROWN {
-                    return match both(text, next, Kind::Whole(MOST32), Kind::Whole(MOST32)) {
-                        Two::At(f, m, last) => PolicyAt::At(
-                            Policy::Grown(f as u32, m as u32),
-                            last,
-                        ),
-                        Two::Refused => PolicyAt::Refused,
-                    };
-                }
-                if first == TIMED {
-                    return match both(text, next, Kind::Whole(MOST32), Kind::Double) {
-                        Two::At(m, h, last) => PolicyAt::At(Policy::Timed(m as u32, h), last),
-                        Two::Refused => PolicyAt::Refused,
-                    };
-                }
-                PolicyAt::Refused
-            }
-            Number::Refused => PolicyAt::Refused,
-        },
-        Place::Refused => PolicyAt::Refused,
+    let (first, next) = word(text, at)?;
+    if first == HELD {
+        let (w, next) = ended(text, next, Kind::Whole(MOST32), b'\n')?;
+        return Some((Policy::Held(w as u32), next));
     }
+    if first == GROWN {
+        let ((f, m), next) = both(text, next, Kind::Whole(MOST32), Kind::Whole(MOST32))?;
+        return Some((Policy::Grown(f as u32, m as u32), next));
+    }
+    if first == TIMED {
+        let ((m, h), next) = both(text, next, Kind::Whole(MOST32), Kind::Double)?;
+        return Some((Policy::Timed(m as u32, h), next));
+    }
+    None
+}
+
+// policy.
+pub(crate) fn policy_line(text: &[u8], at: usize) -> Option<(Policy, usize)>
+    ensures { Reads policy_form text.now at (told policy_case result) }
+{
+    let next = key(text, at, POLICY)?;
+    policy_value(text, next)
 }
 
 // The link: delay, rate, loss and limit.
@@ -221,106 +166,73 @@ pub struct Link {
     pub delay: u64,
     pub rate: u64,
     pub loss: u64,
-    pub limit: Limit,
+    pub limit: Option<u64>,
 }
 
-#[derive(Clone, Copy)]
-pub enum LinkAt {
-    At(Link, usize),
-    Refused,
-}
-
-pub(crate) fn link_lines(text: &[u8], at: usize) -> LinkAt
-    ensures { Reads link_form text.now at (linked result) }
+pub(crate) fn link_lines(text: &[u8], at: usize) -> Option<(Link, usize)>
+    ensures { Reads link_form text.now at (told link_case result) }
 {
-    match value(text, at, DELAY, Kind::Double, b'\n') {
-        Number::At(delay, a) => match value(text, a, RATE, Kind::Double, b'\n') {
-            Number::At(rate, b) => match value(text, b, LOSS, Kind::Double, b'\n') {
-                Number::At(loss, c) => match limit_line(text, c) {
-                    LimitAt::At(limit, next) => LinkAt::At(
-                        Link {
-                            delay,
-                            rate,
-                            loss,
-                            limit,
-                        },
-                        next,
-                    ),
-                    LimitAt::Refused => LinkAt::Refused,
-                },
-                Number::Refused => LinkAt::Refused,
-            },
-            Number::Refused => LinkAt::Refused,
-        },
-        Number::Refused => LinkAt::Refused,
-    }
+    let (delay, next) = value(text, at, DELAY, Kind::Double, b'\n')?;
+    let (rate, next) = value(text, next, RATE, Kind::Double, b'\n')?;
+    let (loss, next) = value(text, next, LOSS, Kind::Double, b'\n')?;
+    let (limit, next) = limit_line(text, next)?;
+    let link = Link {
+        delay,
+        rate,
+        loss,
+        limit,
+    };
+    Some((link, next))
 }
 
-// What the `bits` line says: how many values it has, 0 where there is no such line, the numbers that a
-// description holds, and the position after the line.
+// What the `bits` line says: how many values it has, and the numbers that a description holds.
 #[derive(Clone, Copy)]
 pub struct Sizes {
     pub count: usize,
     pub values: [u64; 16],
-    pub next: usize,
 }
 
 // One value more. The first 16 are kept.
 //
 // A helper within this crate: the caller gives fewer values than a text has bytes.
-fn with_value(sizes: Sizes, value: u64, next: usize) -> Sizes
+fn with_value(sizes: Sizes, value: u64) -> Sizes
     requires { sizes.count + 1 < 2 ^ 64 }
-    ensures { result ≡ with_value sizes value next }
+    ensures { result ≡ with_value sizes value }
 {
-    let at = sizes.count;
     let mut more = sizes;
-    more.count = at + 1;
-    more.next = next;
-    if at < 16 {
-        more.values[at] = value;
-        return more;
+    more.count += 1;
+    if sizes.count < 16 {
+        more.values[sizes.count] = value;
     }
     more
 }
 
 // bits: values joined by commas. One value is that of each sender.
-pub(crate) fn bits_line(text: &[u8], at: usize) -> Sizes
+pub(crate) fn bits_line(text: &[u8], at: usize) -> Option<(Sizes, usize)>
     ensures { ReadsBits text.now at result }
 {
-    let none = Sizes {
+    let from = key(text, at, BITS)?;
+    let mut sizes = Sizes {
         count: 0,
         values: [0; 16],
-        next: 0,
     };
-    let Place::At(from) = key(text, at, BITS) else {
-        return none;
-    };
-    let mut sizes = none;
-    sizes.next = from;
-    loop {
-        match decimal(text, sizes.next, MOST64, b',') {
-            Number::At(v, next) => {
-                sizes = with_value(sizes, v, next);
-            }
-            Number::Refused => break,
-        }
+    let mut last = from;
+    while let Some((v, next)) = decimal(text, last, u64::MAX, b',') {
+        sizes = with_value(sizes, v);
+        last = next;
     }
-    match decimal(text, sizes.next, MOST64, b'\n') {
-        Number::At(v, next) => {
-            if MOST_LINE < next - at - 1 {
-                return none;
-            }
-            if sizes.count == 0 {
-                return Sizes {
-                    count: 1,
-                    values: [v; 16],
-                    next,
-                };
-            }
-            with_value(sizes, v, next)
-        }
-        Number::Refused => none,
+    let (v, next) = decimal(text, last, u64::MAX, b'\n')?;
+    if MOST_LINE < next - at - 1 {
+        return None;
     }
+    if sizes.count == 0 {
+        let one = Sizes {
+            count: 1,
+            values: [v; 16],
+        };
+        return Some((one, next));
+    }
+    Some((with_value(sizes, v), next))
 }
 
 // Whether so many values of `bits` are one, or one for each sender.
@@ -330,10 +242,7 @@ pub(crate) fn counted(count: usize, senders: u32) -> bool
     requires { 1 ≤ count }
     ensures { Tells (Counted count senders) result }
 {
-    if count == 1 {
-        return true;
-    }
-    count == senders as usize
+    count == 1 || count == senders as usize
 }
 
 // The load: the number of senders, and their on and off times.
@@ -344,32 +253,18 @@ pub struct Load {
     pub off: Distribution,
 }
 
-#[derive(Clone, Copy)]
-pub enum LoadAt {
-    At(Load, usize),
-    Refused,
-}
-
-pub(crate) fn load_lines(text: &[u8], at: usize) -> LoadAt
-    ensures { Reads load_form text.now at (loaded result) }
+pub(crate) fn load_lines(text: &[u8], at: usize) -> Option<(Load, usize)>
+    ensures { Reads load_form text.now at (told load_case result) }
 {
-    match value(text, at, SENDERS, Kind::Whole(MOST32), b'\n') {
-        Number::At(n, a) => match distribution_line(text, a, ON) {
-            DistributionAt::At(on, b) => match distribution_line(text, b, OFF) {
-                DistributionAt::At(off, next) => LoadAt::At(
-                    Load {
-                        senders: n as u32,
-                        on,
-                        off,
-                    },
-                    next,
-                ),
-                DistributionAt::Refused => LoadAt::Refused,
-            },
-            DistributionAt::Refused => LoadAt::Refused,
-        },
-        Number::Refused => LoadAt::Refused,
-    }
+    let (senders, next) = value(text, at, SENDERS, Kind::Whole(MOST32), b'\n')?;
+    let (on, next) = distribution_line(text, next, ON)?;
+    let (off, next) = distribution_line(text, next, OFF)?;
+    let load = Load {
+        senders: senders as u32,
+        on,
+        off,
+    };
+    Some((load, next))
 }
 
 // The run: policy, seed and ticks.
@@ -380,30 +275,16 @@ pub struct Course {
     pub ticks: u32,
 }
 
-#[derive(Clone, Copy)]
-pub enum CourseAt {
-    At(Course, usize),
-    Refused,
-}
-
-pub(crate) fn course_lines(text: &[u8], at: usize) -> CourseAt
-    ensures { Reads course_form text.now at (coursed result) }
+pub(crate) fn course_lines(text: &[u8], at: usize) -> Option<(Course, usize)>
+    ensures { Reads course_form text.now at (told course_case result) }
 {
-    match policy_line(text, at) {
-        PolicyAt::At(policy, a) => match value(text, a, SEED, Kind::Whole(MOST64), b'\n') {
-            Number::At(seed, b) => match value(text, b, TICKS, Kind::Whole(MOST_TICKS), b'\n') {
-                Number::At(n, next) => CourseAt::At(
-                    Course {
-                        policy,
-                        seed,
-                        ticks: n as u32,
-                    },
-                    next,
-                ),
-                Number::Refused => CourseAt::Refused,
-            },
-            Number::Refused => CourseAt::Refused,
-        },
-        PolicyAt::Refused => CourseAt::Refused,
-    }
+    let (policy, next) = policy_line(text, at)?;
+    let (seed, next) = value(text, next, SEED, Kind::Whole(u64::MAX), b'\n')?;
+    let (ticks, next) = value(text, next, TICKS, Kind::Whole(MOST_TICKS), b'\n')?;
+    let course = Course {
+        policy,
+        seed,
+        ticks: ticks as u32,
+    };
+    Some((course, next))
 }

@@ -8,13 +8,10 @@
 // description has a part in. The file stdout beside src/ holds what the Rust oracle answers.
 #![tactic(auto)]
 
-use description::{Description, Distribution, Policy, ReadDescription};
+use description::{Description, Distribution, Malformed, Policy};
 use script::input::read_full;
 use script::number;
 use std::io;
-
-// The greatest number of 64 bits.
-pub const MOST: u64 = 0xffff_ffff_ffff_ffff;
 
 // The bytes of a letter, a space, a field and LF.
 pub const HEAD: usize = 19;
@@ -49,9 +46,11 @@ fn rounds(list: &[u8]) -> Tally {
 }
 
 fn print(rt: &impl Print, tally: Tally) -> io::Result<()> {
-    let given = tally.given;
-    let malformed = tally.malformed;
-    let sum = tally.sum;
+    let Tally {
+        given,
+        malformed,
+        sum,
+    } = tally;
     println!(rt; "given={given} malformed={malformed} sum={sum:016x}")
 }
 
@@ -76,24 +75,22 @@ fn round(list: &[u8], tally: Tally) -> Tally {
 }
 
 // One answer more.
-fn counted(tally: Tally, answer: ReadDescription) -> Tally {
-    if answer.number != 0 {
-        return Tally {
-            given: tally.given,
+fn counted(tally: Tally, answer: Result<Description, Malformed>) -> Tally {
+    match answer {
+        Ok(d) => Tally {
+            given: one_more(tally.given),
+            sum: described(tally.sum, d),
+            ..tally
+        },
+        Err(_) => Tally {
             malformed: one_more(tally.malformed),
-            sum: tally.sum,
-        };
-    }
-    let d = answer.description;
-    Tally {
-        given: one_more(tally.given),
-        malformed: tally.malformed,
-        sum: described(tally.sum, d),
+            ..tally
+        },
     }
 }
 
 fn one_more(n: u64) -> u64 {
-    if n < MOST { n + 1 } else { n }
+    n.saturating_add(1)
 }
 
 // The sum with a number more. Each step can be undone (xorshift64), so that no number drops out of it.
@@ -105,14 +102,9 @@ fn with(sum: u64, n: u64) -> u64 {
 }
 
 fn described(sum: u64, d: Description) -> u64 {
-    let limit = d.limit;
-    let bits = d.bits;
-    let on = d.on;
-    let off = d.off;
-    let policy = d.policy;
-    let link = limited(with(with(with(sum, d.delay), d.rate), d.loss), limit);
-    let load = with(sized(link, bits), d.senders as u64);
-    let course = governed(distributed(distributed(load, on), off), policy);
+    let link = limited(with(with(with(sum, d.delay), d.rate), d.loss), d.limit);
+    let load = with(sized(link, d.bits), d.senders as u64);
+    let course = governed(distributed(distributed(load, d.on), d.off), d.policy);
     with(with(course, d.seed), d.ticks as u64)
 }
 
@@ -126,8 +118,8 @@ fn limited(sum: u64, limit: Option<u64>) -> u64 {
 // The packet bits of all 16 places.
 fn sized(sum: u64, bits: [u64; 16]) -> u64 {
     let mut now = sum;
-    for i in 0..16 {
-        now = with(now, bits[i]);
+    for size in bits {
+        now = with(now, size);
     }
     now
 }

@@ -10,6 +10,7 @@ use lib.ListN.{length, get_or, drop, length-append, drop_of_length-le}
 use lib.Seq.{drop-cons}
 use native.Mathlib.Numerals.{add-one}
 use borrow.Author.Tests.{ltb-true, ltb-false, lt-ltb, le-ltb}
+use Rattle.std.specs.Prelude.{Some, None}
 use Rattle.notation.specs.Notation.{digit_byte}
 use Rattle.notation.specs.Reading.{Run, ends, digit, NoDigit, DigitIs, SomeDigits, NoDigits}
 
@@ -78,20 +79,18 @@ module _ (b : ℕ) where
       (p.0, append_cancel_right s' s u (ap (λ (x : List ℕ). s' ++ x) (sym p.1) ∙ sym q), p.1)
 
 -- what `digit` answers
-digit_is : (x r : ℕ) → r < 16 → x ≡ digit_byte r → DigitIs x r
-digit_is x r h e = record { byte = λ _. e; only = λ d l q. digit_only r d h l (sym e ∙ q) }
+digit_is : (x r : ℕ) → r < 16 → x ≡ digit_byte r → DigitIs x (Some r)
+digit_is x r h e d = (λ q. let same : r ≡ d = cc in (omega arith, e ∙ ap digit_byte same), λ p. ap Some (digit_only r d h p.0 (sym e ∙ p.1)))
 
-pub digit_low : (x : ℕ) → 48 ≤ x → x < 58 → DigitIs x (x - 48)
+pub digit_low : (x : ℕ) → 48 ≤ x → x < 58 → DigitIs x (Some (x - 48))
 digit_low x h l = digit_is x (x - 48) (omega arith) (let e : x - 48 < 10 = omega arith in omega (arith, low_digit (x - 48) e))
 
-pub digit_high : (x : ℕ) → 97 ≤ x → x < 103 → DigitIs x (x - 87)
-digit_high x h l = digit_is x (x - 87) (omega arith) (let e : 10 ≤ x - 87 = omega arith in omega (arith, high_digit (x - 87) e))
+pub digit_high : (x : ℕ) → 97 ≤ x → x < 103 → DigitIs x (Some (x - 97 + 10))
+digit_high x h l = digit_is x (x - 97 + 10) (omega arith) (let e : 10 ≤ x - 97 + 10 = omega arith in omega (arith, high_digit (x - 97 + 10) e))
 
-pub digit_none : (x : ℕ) → ((d : ℕ) → d < 10 → x ≡ 48 + d → ⊥) → ((d : ℕ) → 10 ≤ d → d < 16 → x ≡ 87 + d → ⊥) → DigitIs x 16
-digit_none x low high = record {
-  byte = λ h. absurd (omega arith);
-  only = λ d h q. absurd (by_range (λ k y. k < 16 → x ≡ y → ⊥) d (λ l _. low d l) (λ l. high d l) h q);
-}
+pub digit_none : (x : ℕ) → ((d : ℕ) → d < 10 → x ≡ 48 + d → ⊥) → ((d : ℕ) → 10 ≤ d → d < 16 → x ≡ 87 + d → ⊥) → DigitIs x None
+digit_none x low high d =
+    (λ q. cc, λ p. absurd (by_range (λ k y. k < 16 → x ≡ y → ⊥) d (λ l _. low d l) (λ l. high d l) p.0 p.1))
 
 -- the byte at a position, first of what stands from there
 pub at_byte : (text : List ℕ) (n : ℕ) → n < length text → drop n text ≡ get_or text n 0 ∷ drop (n + 1) text
@@ -99,9 +98,6 @@ at_byte text n h = rw (add-one n) (drop-cons text n 0 h)
 
 pub at_end : (text : List ℕ) (n x : ℕ) (rest : List ℕ) → length text ≤ n → drop n text ≡ x ∷ rest → ⊥
 at_end text n x rest h e = no_head x rest (sym e ∙ drop_of_length-le text h)
-
-pub at_other : (text : List ℕ) (n x : ℕ) (rest : List ℕ) → n < length text → (get_or text n 0 ≡ x → ⊥) → drop n text ≡ x ∷ rest → ⊥
-at_other text n x rest h other e = other (cons-eq-cons.0 (sym (at_byte text n h) ∙ e)).0
 
 -- the digits passed so far: none at first, one more with each digit, and too many where the value passes most
 module _ (b most : ℕ) (text : List ℕ) (at : ℕ) where
@@ -130,11 +126,3 @@ module _ (b most : ℕ) (text : List ℕ) (at : ℕ) where
           let over = run_over b small (drop (n + 1) text) rest (run_snoc b d l p.run) r (sym one_more_lem ∙ q) last in
           omega (arith, run_le b pos over.2);
     }
-
--- where the digits end: at the text's end, or before a byte that is no digit to the base b
-pub last_end : (b : ℕ) (text : List ℕ) (n : ℕ) → length text ≤ n → NoDigit b (drop n text)
-last_end b text n h d rest l e = at_end text n (digit_byte d) rest h e
-
-pub last_other : (b : ℕ) (text : List ℕ) (n r : ℕ) → b ≤ 16 → n < length text → DigitIs (get_or text n 0) r → b ≤ r → NoDigit b (drop n text)
-last_other b text n r small h is m d rest l e =
-    at_other text n (digit_byte d) rest h (λ q. let z = is.only d (lt_of_lt_of_le l small) q in omega arith) e

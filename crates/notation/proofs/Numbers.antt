@@ -5,7 +5,7 @@ use mathlib.Core.Path.{◌≡◌, sym, ap, ◌∙◌}
 use native.Mathlib.Nat.{lt_of_lt_of_le, add-zero}
 use native.Mathlib.Omega.{arith}
 use lib.Dec.{lit≤}
-use lib.ListN.{length, drop, get_or, length-append, length-drop, get_or-append}
+use lib.ListN.{length, drop, get_or, length-append, get_or-append}
 use lib.Seq.{get_or-drop}
 use Rattle.notation.specs.Notation.{hex_of, decimal_of}
 use Rattle.notation.specs.Reading.{led_by_zero, Form, Found, Absent, Run, NoDigit, SomeDigits, NoDigits, word_form}
@@ -71,10 +71,6 @@ module _ (N : Notation) (end : ℕ) (none : NoDigit 16 (end ∷ [])) (text : Lis
 
 -- digits that were read: where there are some, the first of them stands at the position
 module _ {b most v n : ℕ} {text : List ℕ} {at : ℕ} (p : SomeDigits b most text at v n) (h : (n ≡ at) → ⊥) where
-  pub some_within : at < length text
-  some_within =
-      omega (arith, p.count, length-drop at text, ap length p.here, length-append p.digits (drop n text))
-
   some_first : get_or text at 0 ≡ get_or p.digits 0 0
   some_first =
       ap (λ (k : ℕ). get_or text k 0) (sym (add-zero at))

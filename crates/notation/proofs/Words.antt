@@ -7,13 +7,12 @@ use native.Mathlib.Omega.{arith}
 use lib.Dec.{ltb, eqb}
 use lib.ListN.{length, drop, get_or}
 use borrow.Author.Tests.{ltb-true, ltb-false, eqb-true, eqb-false}
-use Rattle.notation.specs.Reading.{Found, Absent, word_form, is_letter, Spells, last, more, SomeWord, NoWord}
+use Rattle.std.proofs.lemmas.Bool.Decides.{nat_tests}
+use Rattle.std.specs.Char.{is_ascii_lowercase}
+use Rattle.notation.specs.Reading.{Found, Absent, word_form, Spells, last, more, SomeWord, NoWord}
 use Rattle.notation.proofs.Digits.{at_byte, at_end}
 
 -- ---- a fixed word
-
-pub byte_absent : (text : List ℕ) (at b : ℕ) → ((rest : List ℕ) → drop at text ≡ b ∷ rest → ⊥) → Absent (word_form (b ∷ [])) text at
-byte_absent text at b other = record { none = λ _ rest e _. other rest e }
 
 pub word-found : (text w : List ℕ) (at next : ℕ) → drop at text ≡ w ++ drop next text → next ≡ at + length w → Found (word_form w) text at tt next
 word-found text w at next e n = record {
@@ -26,19 +25,11 @@ word-found text w at next e n = record {
 -- ---- letters
 
 -- the bytes of letters
-letter_low : (b : ℕ) → is_letter b ≡ true → 97 ≤ b
-letter_low b e = cases (ltb b 97) refl
-  where
-    cases : (t : Bool) → ltb b 97 ≡ t → 97 ≤ b
-    cases true q = absurd (false≢true (rw q at e))
-    cases false q = ltb-false b 97 q
+letter_low : (b : ℕ) → is_ascii_lowercase b ≡ true → 97 ≤ b
+letter_low b e = grind (arith, nat_tests)
 
-letter_high : (b : ℕ) → is_letter b ≡ true → b < 123
-letter_high b e = cases (ltb b 97) refl
-  where
-    cases : (t : Bool) → ltb b 97 ≡ t → b < 123
-    cases true q = absurd (false≢true (rw q at e))
-    cases false q = ltb-true b 123 (rw q at e)
+letter_high : (b : ℕ) → is_ascii_lowercase b ≡ true → b < 123
+letter_high b e = grind (arith, nat_tests)
 
 -- ---- the value of a word
 
@@ -82,8 +73,8 @@ spells_once {s = s} {t = t} r r' = cases (ltb (length s) (length t)) refl (ltb (
 -- two words at the head of one text have one value
 spells_same : {n v w : ℕ} {s t : List ℕ} (u u' : List ℕ) → Spells n s v → Spells n t w → s ++ u ≡ t ++ u' → v ≡ w
 spells_same {n} u u' (last b h l) (last c k m) q = ap (λ (x : ℕ). n * 256 + x) (cons-eq-cons.0 q).0
-spells_same u u' (last b h l) (more c m r) q = absurd (false≢true (sym l ∙ ap is_letter (cons-eq-cons.0 q).0 ∙ m))
-spells_same u u' (more b l r) (last c k m) q = absurd (false≢true (sym m ∙ sym (ap is_letter (cons-eq-cons.0 q).0) ∙ l))
+spells_same u u' (last b h l) (more c m r) q = absurd (false≢true (sym l ∙ ap is_ascii_lowercase (cons-eq-cons.0 q).0 ∙ m))
+spells_same u u' (more b l r) (last c k m) q = absurd (false≢true (sym m ∙ sym (ap is_ascii_lowercase (cons-eq-cons.0 q).0) ∙ l))
 spells_same {n} u u' (more b l r) (more {v = w} {s = t} c m r') q =
     let p = cons-eq-cons.0 q in
     spells_same u u' r (subst (λ (x : ℕ). Spells (n * 256 + x) t w) (sym p.0) r') p.1
@@ -96,21 +87,21 @@ last_alone b (c ∷ s) = false
 
 abbrev pub is_word : List ℕ → Bool
 is_word [] = false
-is_word (b ∷ s) = cond (is_letter b) (is_word s) (last_alone b s)
+is_word (b ∷ s) = cond (is_ascii_lowercase b) (is_word s) (last_alone b s)
 
 abbrev pub value_from : ℕ → List ℕ → ℕ
 value_from n [] = n
 value_from n (b ∷ s) = value_from (n * 256 + b) s
 
-last_alone_lem : (n b : ℕ) (s : List ℕ) → is_letter b ≡ false → last_alone b s ≡ true → Spells n (b ∷ s) (value_from n (b ∷ s))
+last_alone_lem : (n b : ℕ) (s : List ℕ) → is_ascii_lowercase b ≡ false → last_alone b s ≡ true → Spells n (b ∷ s) (value_from n (b ∷ s))
 last_alone_lem n b [] l e = last b (ltb-true b 256 e) l
 last_alone_lem n b (c ∷ s) l e = absurd (false≢true e)
 
 pub spelt : (n : ℕ) (w : List ℕ) → is_word w ≡ true → Spells n w (value_from n w)
 spelt n [] e = absurd (false≢true e)
-spelt n (b ∷ s) e = cases (is_letter b) refl (λ h. spelt (n * 256 + b) s h)
+spelt n (b ∷ s) e = cases (is_ascii_lowercase b) refl (λ h. spelt (n * 256 + b) s h)
   where
-    cases : (t : Bool) → is_letter b ≡ t → (is_word s ≡ true → Spells (n * 256 + b) s (value_from (n * 256 + b) s)) → Spells n (b ∷ s) (value_from n (b ∷ s))
+    cases : (t : Bool) → is_ascii_lowercase b ≡ t → (is_word s ≡ true → Spells (n * 256 + b) s (value_from (n * 256 + b) s)) → Spells n (b ∷ s) (value_from n (b ∷ s))
     cases true l others = more b l (others (rw l at e))
     cases false l others = last_alone_lem n b s l (rw l at e)
 
@@ -141,7 +132,7 @@ passed_none text at = record { to = λ s rest v e r. (s, r, e, refl); from = λ 
 
 module _ (text : List ℕ) (at value next : ℕ) (p : Passed text at value next) where
   module _ (h : next < length text) where
-    pub passed-more : is_letter (get_or text next 0) ≡ true → Passed text at (value * 256 + get_or text next 0) (next + 1)
+    pub passed-more : is_ascii_lowercase (get_or text next 0) ≡ true → Passed text at (value * 256 + get_or text next 0) (next + 1)
     passed-more l = record {
       to = λ s rest v e r.
           let q = p.to (get_or text next 0 ∷ s) rest v (at_byte text next h ∙ ap (λ (x : List ℕ). get_or text next 0 ∷ x) e) (more _ l r) in
@@ -151,12 +142,12 @@ module _ (text : List ℕ) (at value next : ℕ) (p : Passed text at value next)
       where
         step : (rest s : List ℕ) (v : ℕ) → Spells value s v → get_or text next 0 ∷ drop (next + 1) text ≡ s ++ rest
             → (t : List ℕ) × Spells (value * 256 + get_or text next 0) t v × (drop (next + 1) text ≡ t ++ rest)
-        step rest _ _ (last c k m) e = absurd (false≢true (sym m ∙ sym (ap is_letter (cons-eq-cons.0 e).0) ∙ l))
+        step rest _ _ (last c k m) e = absurd (false≢true (sym m ∙ sym (ap is_ascii_lowercase (cons-eq-cons.0 e).0) ∙ l))
         step rest _ v (more {s = t} c m r) e =
             let q = cons-eq-cons.0 e in
             (t, subst (λ (x : ℕ). Spells (value * 256 + x) t v) (sym q.0) r, q.1)
 
-    pub word_some : get_or text next 0 < 256 → is_letter (get_or text next 0) ≡ false → SomeWord text at (value * 256 + get_or text next 0) (next + 1)
+    pub word_some : get_or text next 0 < 256 → is_ascii_lowercase (get_or text next 0) ≡ false → SomeWord text at (value * 256 + get_or text next 0) (next + 1)
     word_some k l =
         let q = p.to (get_or text next 0 ∷ []) (drop (next + 1) text) _ (at_byte text next h) (last _ k l) in
         record { word = q.0; spells = q.1; here = q.2; count = omega (arith, q.3) }

@@ -1,21 +1,13 @@
 -- What the functions that read a part of a text answer. Definitions only.
-use Rattle.std.specs.Prelude.{ℕ, ◌+◌, ◌*◌, ◌^◌, ◌≤◌, ◌<◌, List, [], ◌∷◌, ◌++◌, Bool, true, false, cond, ◌⊎◌, ◌≡◌, eqb, ltb, drop, length}
+use Rattle.std.specs.Prelude.{ℕ, ◌+◌, ◌*◌, ◌^◌, ◌≤◌, ◌<◌, List, [], ◌∷◌, ◌++◌, Bool, true, false, cond, Option, Some, None, option_map, ◌⊎◌, ◌≡◌, ◌↔◌, eqb, drop, length}
+use Rattle.std.specs.Char.{is_ascii_lowercase}
 use Rattle.std.proofs.Common.{⊎_elim}
 use Rattle.notation.specs.Notation.{digit_byte, hex_of, decimal_of}
-use Rattle.notation.specs.declared.scan.Place.{Place}
-use Rattle.notation.specs.declared.scan.Place.TheVariants as P
-use Rattle.notation.specs.declared.scan.Number.{Number}
-use Rattle.notation.specs.declared.scan.Number.TheVariants as N
 
 -- how a value is written, and which values may stand there
 pub record Form (A : Type 0) : Type 1 where
   pub text : A → List ℕ
   pub fits : A → Type 0
-
--- a value with the position after it, or a refusal
-pub data ReadResult (A : Type 0) : Type 0 where
-  found : A → ℕ → ReadResult A
-  refused : ReadResult A
 
 -- at the position stands a value in the form, up to the position next, and no other reading is possible
 pub record Found {A : Type 0} (F : Form A) (text : List ℕ) (at : ℕ) (v : A) (next : ℕ) : Type 0 where
@@ -28,19 +20,17 @@ pub record Found {A : Type 0} (F : Form A) (text : List ℕ) (at : ℕ) (v : A) 
 pub record Absent {A : Type 0} (F : Form A) (text : List ℕ) (at : ℕ) : Type 0 where
   pub none : (w : A) (rest : List ℕ) → drop at text ≡ F.text w ++ rest → F.fits w → ⊥
 
--- a value that is found stands there; where the answer is a refusal, none does
-abbrev pub Reads : {A : Type 0} → Form A → List ℕ → ℕ → ReadResult A → Type 0
-Reads F text at (found v next) = Found F text at v next
-Reads F text at refused = Absent F text at
+-- a value that is read, with the position after it, stands there; where there is none, none does
+abbrev pub Reads : {A : Type 0} → Form A → List ℕ → ℕ → Option (A × ℕ) → Type 0
+Reads F text at (Some r) = Found F text at r.0 r.1
+Reads F text at None = Absent F text at
 
--- the answers as outcomes
-abbrev pub placed : Place → ReadResult (Unit {0})
-placed (P.At next) = found tt next
-placed P.Refused = refused
+-- what is read, with the value in the cases of its form; of a fixed word only the position is told
+abbrev pub told : {A B : Type 0} → (A → B) → Option (A × ℕ) → Option (B × ℕ)
+told cases = option_map (λ r. (cases r.0, r.1))
 
-abbrev pub numbered : Number → ReadResult ℕ
-numbered (N.At v next) = found v next
-numbered N.Refused = refused
+abbrev pub placed : Option ℕ → Option (Unit {0} × ℕ)
+placed = option_map (λ next. (tt, next))
 
 -- the forms: a fixed word; a double and what ends it; a whole number, at most most, and what ends it
 abbrev pub word_form : List ℕ → Form (Unit {0})
@@ -62,10 +52,9 @@ pair F G = record { text = λ p. F.text p.0 ++ G.text p.1; fits = λ p. F.fits p
 abbrev pub either : {A B : Type 0} → Form A → Form B → Form (A ⊎ B)
 either F G = record { text = ⊎_elim F.text G.text; fits = ⊎_elim F.fits G.fits }
 
--- r is the digit that the byte b is, and is 16 or more where b is none
-pub record DigitIs (b r : ℕ) : Type 0 where
-  pub byte : r < 16 → b ≡ digit_byte r
-  pub only : (d : ℕ) → d < 16 → b ≡ digit_byte d → r ≡ d
+-- the digit that the byte b is, and none where b is no digit
+abbrev pub DigitIs : ℕ → Option ℕ → Type 0
+DigitIs b r = (d : ℕ) → (r ≡ Some d) ↔ ((d < 16) × (b ≡ digit_byte d))
 
 -- of count digits, more than one, the first is a zero
 abbrev pub led_by_zero : ℕ → ℕ → Bool
@@ -93,18 +82,14 @@ pub record NoDigits (b most : ℕ) (text : List ℕ) (at : ℕ) : Type 0 where
   pub none : (s rest : List ℕ) (v : ℕ) → drop at text ≡ s ++ rest → Run b 0 s v → NoDigit b rest → v ≤ most → ⊥
 
 -- all digits from a position are read, or their value is above most
-abbrev pub ReadsDigits : ℕ → ℕ → List ℕ → ℕ → ReadResult ℕ → Type 0
-ReadsDigits b most text at (found v next) = SomeDigits b most text at v next × NoDigit b (drop next text)
-ReadsDigits b most text at refused = NoDigits b most text at
-
--- a lower-case letter
-abbrev pub is_letter : ℕ → Bool
-is_letter b = cond (ltb b 97) false (ltb b 123)
+abbrev pub ReadsDigits : ℕ → ℕ → List ℕ → ℕ → Option (ℕ × ℕ) → Type 0
+ReadsDigits b most text at (Some r) = SomeDigits b most text at r.0 r.1 × NoDigit b (drop r.1 text)
+ReadsDigits b most text at None = NoDigits b most text at
 
 -- the word s, read after letters of the value n, has the value v: its bytes are digits to the base 256, the last is no letter, and the others are letters
 pub data Spells : ℕ → List ℕ → ℕ → Type 0 where
-  last : {n : ℕ} (b : ℕ) → b < 256 → is_letter b ≡ false → Spells n (b ∷ []) (n * 256 + b)
-  more : {n v : ℕ} {s : List ℕ} (b : ℕ) → is_letter b ≡ true → Spells (n * 256 + b) s v → Spells n (b ∷ s) v
+  last : {n : ℕ} (b : ℕ) → b < 256 → is_ascii_lowercase b ≡ false → Spells n (b ∷ []) (n * 256 + b)
+  more : {n v : ℕ} {s : List ℕ} (b : ℕ) → is_ascii_lowercase b ≡ true → Spells (n * 256 + b) s v → Spells n (b ∷ s) v
 
 -- a word from a position up to the position next
 pub record SomeWord (text : List ℕ) (at v next : ℕ) : Type 0 where
@@ -118,11 +103,11 @@ pub record NoWord (text : List ℕ) (at : ℕ) : Type 0 where
   pub none : (s rest : List ℕ) (v : ℕ) → drop at text ≡ s ++ rest → Spells 0 s v → v < 2 ^ 64 → ⊥
 
 -- the word at a position is read, or there is none with a value of 64 bits
-abbrev pub ReadsWord : List ℕ → ℕ → ReadResult ℕ → Type 0
-ReadsWord text at (found v next) = SomeWord text at v next
-ReadsWord text at refused = NoWord text at
+abbrev pub ReadsWord : List ℕ → ℕ → Option (ℕ × ℕ) → Type 0
+ReadsWord text at (Some r) = SomeWord text at r.0 r.1
+ReadsWord text at None = NoWord text at
 
 -- the word with a given value is read, or it does not stand there
-abbrev pub ReadsKey : ℕ → List ℕ → ℕ → ReadResult (Unit {0}) → Type 0
-ReadsKey key text at (found _ next) = SomeWord text at key next
-ReadsKey key text at refused = (w : List ℕ) → Spells 0 w key → Absent (word_form w) text at
+abbrev pub ReadsKey : ℕ → List ℕ → ℕ → Option ℕ → Type 0
+ReadsKey key text at (Some next) = SomeWord text at key next
+ReadsKey key text at None = (w : List ℕ) → Spells 0 w key → Absent (word_form w) text at

@@ -1,5 +1,5 @@
 -- The network of a description (document 01, "The text program"): each double is the one that its bits stand for. Definitions only.
-use Rattle.std.specs.Prelude.{ℕ, Float, Option, Some, None}
+use Rattle.std.specs.Prelude.{ℕ, Float, None}
 use Rattle.std.specs.Float.{binary64}
 use Rattle.std.specs.Float.Ieee.{of_bits}
 use Rattle.draws.specs.declared.distribution.ContinuousDistribution.{ContinuousDistribution}
@@ -8,8 +8,6 @@ use Rattle.sender.specs.declared.lossy.Policy.{Policy}
 use Rattle.sender.specs.declared.lossy.Policy.TheVariants as Policy
 use Rattle.remy.specs.declared.network.RemyNetwork.{RemyNetwork}
 use Rattle.description.specs.declared.Description.{Description}
-use Rattle.description.specs.declared.Limit as L
-use Rattle.description.specs.declared.Limit.TheVariants as GivenLimit
 use Rattle.description.specs.declared.Distribution as D
 use Rattle.description.specs.declared.Distribution.TheVariants as GivenDistribution
 use Rattle.description.specs.declared.Policy as P
@@ -18,10 +16,6 @@ use Rattle.description.specs.declared.Policy.TheVariants as GivenPolicy
 -- the double of 64 bits; every pattern of a NaN is the one NaN
 abbrev pub double_of : ℕ → Float
 double_of bits = of_bits binary64 bits
-
-abbrev pub limit_of : L.Limit → Option ℕ
-limit_of GivenLimit.None = None
-limit_of (GivenLimit.Bits n) = Some n
 
 abbrev pub distribution_of : D.Distribution → ContinuousDistribution
 distribution_of (GivenDistribution.Always v) = Distribution.Always (double_of v)
@@ -36,7 +30,7 @@ policy_of (GivenPolicy.Timed m gap) = Policy.Timed m (double_of gap)
 abbrev pub network_of : Description → RemyNetwork
 network_of d =
     record {
-      line = record { delay = double_of d.delay; rate = double_of d.rate; loss = double_of d.loss; limit = limit_of d.limit };
+      line = record { delay = double_of d.delay; rate = double_of d.rate; loss = double_of d.loss; limit = d.limit };
       back = None;
       bits = d.bits;
       senders = d.senders;

@@ -1,10 +1,10 @@
 -- What is printed for a text (document 01, "The text program"). Definitions only.
-use Rattle.std.specs.Prelude.{ℕ, cond, List, [], ◌∷◌, ◌≡◌, eqb}
+use Rattle.std.specs.Prelude.{ℕ, cond, List, [], ◌∷◌, Result, Ok, Err, ◌≡◌, eqb}
 use Rattle.remy.specs.declared.simulation.Simulation.{Simulation}
 use Rattle.remy.specs.declared.simulation.Built.{Built}
 use Rattle.remy.specs.Build.{empty_simulation, build_of}
 use Rattle.description.specs.declared.Description.{Description}
-use Rattle.description.specs.declared.ReadDescription.{ReadDescription}
+use Rattle.description.specs.declared.Malformed.{Malformed}
 use Rattle.description.specs.Text.{Written, text_of, InWidth, ReadAs, given, malformed, answer_of}
 use Rattle.printer.specs.Printing.{refused_text}
 use Rattle.report.specs.declared.run.Stage.{Stage}
@@ -31,12 +31,13 @@ first_stage number ticks = cond (eqb number 0) (Stage.Ticks ticks) (Stage.Refuse
 abbrev pub started_report : Built → ℕ → Report
 started_report b ticks = record { stage = first_stage b.number ticks; simulation = b.simulation }
 
--- the report of a description; of an answer, whose number is printed alone where it is not 0
+-- the report of a description; of an answer: a malformed text has only its number
 unfoldable pub begun_of : Description → Report
 begun_of d = started_report (build_of (network_of d) d.seed) d.ticks
 
-unfoldable pub answered_of : ReadDescription → Report
-answered_of r = cond (eqb r.number 0) (begun_of r.description) (record { stage = Stage.Refused r.number; simulation = empty_simulation })
+unfoldable pub answered_of : Result Description Malformed → Report
+answered_of (Ok d) = begun_of d
+answered_of (Err m) = record { stage = Stage.Refused 15; simulation = empty_simulation }
 
 -- the report of what a text is read as
 unfoldable pub report_of : ReadAs → Report

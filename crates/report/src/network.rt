@@ -1,22 +1,14 @@
-// The network of a description.
+// The network of a description. The types converted are of other crates on both sides, so these are
+// functions and no `From`.
 ghost use Rattle.std.specs.Prelude.{◌≡◌};
-ghost use Rattle.report.specs.Network.{limit_of, distribution_of, policy_of, network_of};
+ghost use Rattle.report.specs.Network.{distribution_of, policy_of, network_of};
 
 use description::Description;
 use draws::ContinuousDistribution;
-use link::{LineValues};
+use link::LineValues;
 use quantities::float::from_bits;
-use remy::{RemyNetwork};
+use remy::RemyNetwork;
 use sender::Policy;
-
-fn limit_of(limit: description::Limit) -> Limit
-    ensures { result ≡ limit_of limit }
-{
-    match limit {
-        description::Limit::None => None,
-        description::Limit::Bits(bits) => Some(bits),
-    }
-}
 
 fn distribution_of(distribution: description::Distribution) -> ContinuousDistribution
     ensures { result ≡ distribution_of distribution }
@@ -45,24 +37,19 @@ fn policy_of(policy: description::Policy) -> Policy
 pub(crate) fn network_of(description: Description) -> RemyNetwork
     ensures { result ≡ network_of description }
 {
-    let limit = description.limit;
-    let bits = description.bits;
-    let on = description.on;
-    let off = description.off;
-    let policy = description.policy;
     let line = LineValues {
         delay: from_bits(description.delay),
         rate: from_bits(description.rate),
         loss: from_bits(description.loss),
-        limit: limit_of(limit),
+        limit: description.limit,
     };
     RemyNetwork {
         line,
         back: None,
-        bits,
+        bits: description.bits,
         senders: description.senders,
-        on: distribution_of(on),
-        off: distribution_of(off),
-        policy: policy_of(policy),
+        on: distribution_of(description.on),
+        off: distribution_of(description.off),
+        policy: policy_of(description.policy),
     }
 }

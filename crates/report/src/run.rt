@@ -28,10 +28,10 @@ pub struct Report {
 fn first(number: u32, ticks: u32) -> Stage
     ensures { result ≡ first_stage number ticks }
 {
-    if number != 0 {
-        return Stage::Refused(number);
+    match number {
+        0 => Stage::Ticks(ticks),
+        _ => Stage::Refused(number),
     }
-    Stage::Ticks(ticks)
 }
 
 // The report of a description.
@@ -39,23 +39,21 @@ fn begun(description: Description) -> Report
     ensures { result ≡ begun_of description }
 {
     let built = builder::build(network_of(description), description.seed);
-    let simulation = built.simulation;
-    let stage = first(built.number, description.ticks);
-    Report { stage, simulation }
+    Report {
+        stage: first(built.number, description.ticks),
+        simulation: built.simulation,
+    }
 }
 
 // The report of a text. One that is no description has only its number.
 pub fn report_of(text: &[u8]) -> Report
     ensures { ForText text.now (λ d. result ≡ report_of d) }
 {
-    let answer = description::read(text);
-    if answer.number != 0 {
-        let simulation = builder::empty_simulation();
-        return Report {
-            stage: Stage::Refused(answer.number),
-            simulation,
-        };
+    match description::read(text) {
+        Ok(description) => begun(description),
+        Err(malformed) => Report {
+            stage: Stage::Refused(malformed.number()),
+            simulation: builder::empty_simulation(),
+        },
     }
-    let description = answer.description;
-    begun(description)
 }

@@ -1,4 +1,5 @@
--- `description::gathered` meets its contract. Assumes nothing.
+-- `description::gathered` meets its contract.
+-- Assumes nothing.
 use mathlib.Core.Path.{refl}
 use Rattle.notation.specs.InPlace.{NoBytes}
 use Rattle.description.proofs.gathered.Code as code

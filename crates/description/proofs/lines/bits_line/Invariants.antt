@@ -6,7 +6,7 @@ use Rattle.description.proofs.Sizes.{Passed}
 use Rattle.description.proofs.lines.bits_line.Given as goal
 
 abbrev pub invariant-loop-v : goal.invariant-loop-v
-invariant-loop-v l = Passed l.text l.from l.sizes
+invariant-loop-v l = Passed l.text l.from l.sizes l.last
 
 abbrev pub decreases-loop-v : goal.decreases-loop-v
-decreases-loop-v l = length l.text - l.sizes.next
+decreases-loop-v l = length l.text - l.last

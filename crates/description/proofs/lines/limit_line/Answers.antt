@@ -7,36 +7,31 @@ use Rattle.description.specs.Words.{limit_key, none_line}
 use Rattle.description.specs.Lines.{most64}
 use Rattle.notation.proofs.Words.{spelt, key_is}
 use Rattle.description.proofs.Forms.{key_absent, key_open, key_found, either-none, either_first, either_second}
-use Rattle.description.proofs.Cases.{lf-ends, bits_alone}
+use Rattle.description.proofs.Cases.{bits_alone}
 use Rattle.notation.specs.InPlace.{InPlace}
 use Rattle.description.proofs.lines.limit_line.Code as code
 use Rattle.description.proofs.lines.limit_line.Goals as goal
 
-pub ended-requires : goal.ended-requires
-ended-requires c = lf-ends
+pub returns-in_err-from : goal.returns-in_err-from
+returns-in_err-from c =
+    rw c.from_residual.ensures (key_absent (either (word_form none_line) (decimal_form most64 lf)) (c.in_err-from.ensures limit_key (spelt 0 limit_key refl)))
 
-pub returns-in-At-ended : goal.returns-in-At-ended
-returns-in-At-ended c =
-    let keyed = key_is (spelt 0 limit_key refl) (rw c.in-At.is at c.key.ensures) refl in
-    let bits = rw c.in-At-ended.is at c.ended.ensures in
+pub returns-in-Some : goal.returns-in-Some
+returns-in-Some c =
+    let keyed = key_is (spelt 0 limit_key refl) c.in_ok-from.ensures refl in
+    let bits = c.in-Some.ensures in
     key_found keyed (either_second (word_form none_line) (decimal_form most64 lf) (bits_alone bits) bits)
 
-pub returns-in-At-key : goal.returns-in-At-key
-returns-in-At-key c =
-    let keyed = key_is (spelt 0 limit_key refl) (rw c.in-At.is at c.key.ensures) refl in
-    key_found keyed
-    (either_first (word_form none_line) (decimal_form most64 lf) (key_is (spelt 0 none_line refl) (rw c.in-At-key.is at c.key-in-Refused-ended.ensures) refl)
-    (rw c.in-Refused-ended.is at c.ended.ensures))
+pub returns-in_err-next : goal.returns-in_err-next
+returns-in_err-next c =
+    let keyed = key_is (spelt 0 limit_key refl) c.in_ok-from.ensures refl in
+    rw c.from_residual-in_err-next.ensures
+    (key_open keyed (either-none (word_form none_line) (decimal_form most64 lf) (c.in_err-next.ensures none_line (spelt 0 none_line refl)) c.in_default.ensures))
 
-pub returns-in-Refused-key : goal.returns-in-Refused-key
-returns-in-Refused-key c =
-    let keyed = key_is (spelt 0 limit_key refl) (rw c.in-At.is at c.key.ensures) refl in
-    key_open keyed
-    (either-none (word_form none_line) (decimal_form most64 lf) ((rw c.in-Refused-key.is at c.key-in-Refused-ended.ensures) none_line (spelt 0 none_line refl))
-    (rw c.in-Refused-ended.is at c.ended.ensures))
-
-pub returns-in-Refused : goal.returns-in-Refused
-returns-in-Refused c = key_absent (either (word_form none_line) (decimal_form most64 lf)) ((rw c.in-Refused.is at c.key.ensures) limit_key (spelt 0 limit_key refl))
+pub returns : goal.returns
+returns c =
+    let keyed = key_is (spelt 0 limit_key refl) c.in_ok-from.ensures refl in
+    key_found keyed (either_first (word_form none_line) (decimal_form most64 lf) (key_is (spelt 0 none_line refl) c.in_ok-next.ensures refl) c.in_default.ensures)
 
 in_place : InPlace code.function
 in_place = refl

@@ -7,48 +7,41 @@ use Rattle.description.specs.Words.{delay_key, rate_key, loss_key}
 use Rattle.description.specs.Lines.{limit_form}
 use Rattle.notation.proofs.Words.{spelt}
 use Rattle.description.proofs.Forms.{pair-first, pair_second, pair_found}
-use Rattle.description.proofs.Cases.{lf-ends}
 use Rattle.notation.specs.InPlace.{InPlace}
 use Rattle.description.proofs.lines.link_lines.Code as code
 use Rattle.description.proofs.lines.link_lines.Goals as goal
 
-pub value-requires : goal.value-requires
-value-requires c = lf-ends
+pub returns-in_err-delay : goal.returns-in_err-delay
+returns-in_err-delay c =
+    rw c.from_residual.ensures
+    (pair-first (pair (keyed rate_key (hex_form lf)) (pair (keyed loss_key (hex_form lf)) limit_form)) (c.in_err-delay.ensures delay_key (spelt 0 delay_key refl)))
 
-pub value-requires-in-At : goal.value-requires-in-At
-value-requires-in-At c = lf-ends
+pub returns-in_err-rate : goal.returns-in_err-rate
+returns-in_err-rate c =
+    let delay = c.in_ok-delay.ensures delay_key (spelt 0 delay_key refl) in
+    rw c.from_residual-in_err-rate.ensures
+    (pair_second delay (pair-first (pair (keyed loss_key (hex_form lf)) limit_form) (c.in_err-rate.ensures rate_key (spelt 0 rate_key refl))))
 
-pub value-requires-in-At-value : goal.value-requires-in-At-value
-value-requires-in-At-value c = lf-ends
+pub returns-in_err-loss : goal.returns-in_err-loss
+returns-in_err-loss c =
+    let delay = c.in_ok-delay.ensures delay_key (spelt 0 delay_key refl) in
+    let rate = c.in_ok-rate.ensures rate_key (spelt 0 rate_key refl) in
+    rw c.from_residual-in_err-loss.ensures
+    (pair_second delay (pair_second rate (pair-first limit_form (c.in_err-loss.ensures loss_key (spelt 0 loss_key refl)))))
 
-pub returns-in-At-limit_line : goal.returns-in-At-limit_line
-returns-in-At-limit_line c =
-    pair_found (rw c.in-At.is at (c.value.ensures delay_key (spelt 0 delay_key refl)))
-    (pair_found (rw c.in-At-value.is at (c.value-in-At.ensures rate_key (spelt 0 rate_key refl)))
-    (pair_found (rw c.in-At-value-2.is at (c.value-in-At-value.ensures loss_key (spelt 0 loss_key refl)))
-    (rw c.in-At-limit_line.is at c.limit_line.ensures)))
+pub returns-in_err-limit : goal.returns-in_err-limit
+returns-in_err-limit c =
+    let delay = c.in_ok-delay.ensures delay_key (spelt 0 delay_key refl) in
+    let rate = c.in_ok-rate.ensures rate_key (spelt 0 rate_key refl) in
+    let loss = c.in_ok-loss.ensures loss_key (spelt 0 loss_key refl) in
+    rw c.from_residual-in_err-limit.ensures (pair_second delay (pair_second rate (pair_second loss c.in_err-limit.ensures)))
 
-pub returns-in-Refused-limit_line : goal.returns-in-Refused-limit_line
-returns-in-Refused-limit_line c =
-    pair_second (rw c.in-At.is at (c.value.ensures delay_key (spelt 0 delay_key refl)))
-    (pair_second (rw c.in-At-value.is at (c.value-in-At.ensures rate_key (spelt 0 rate_key refl)))
-    (pair_second (rw c.in-At-value-2.is at (c.value-in-At-value.ensures loss_key (spelt 0 loss_key refl)))
-    (rw c.in-Refused-limit_line.is at c.limit_line.ensures)))
-
-pub returns-in-Refused-value-2 : goal.returns-in-Refused-value-2
-returns-in-Refused-value-2 c =
-    pair_second (rw c.in-At.is at (c.value.ensures delay_key (spelt 0 delay_key refl)))
-    (pair_second (rw c.in-At-value.is at (c.value-in-At.ensures rate_key (spelt 0 rate_key refl)))
-    (pair-first limit_form (rw c.in-Refused-value-2.is at (c.value-in-At-value.ensures loss_key (spelt 0 loss_key refl)))))
-
-pub returns-in-Refused-value : goal.returns-in-Refused-value
-returns-in-Refused-value c =
-    pair_second (rw c.in-At.is at (c.value.ensures delay_key (spelt 0 delay_key refl)))
-    (pair-first (pair (keyed loss_key (hex_form lf)) limit_form) (rw c.in-Refused-value.is at (c.value-in-At.ensures rate_key (spelt 0 rate_key refl))))
-
-pub returns-in-Refused : goal.returns-in-Refused
-returns-in-Refused c =
-    pair-first (pair (keyed rate_key (hex_form lf)) (pair (keyed loss_key (hex_form lf)) limit_form)) (rw c.in-Refused.is at (c.value.ensures delay_key (spelt 0 delay_key refl)))
+pub returns : goal.returns
+returns c =
+    let delay = c.in_ok-delay.ensures delay_key (spelt 0 delay_key refl) in
+    let rate = c.in_ok-rate.ensures rate_key (spelt 0 rate_key refl) in
+    let loss = c.in_ok-loss.ensures loss_key (spelt 0 loss_key refl) in
+    pair_found delay (pair_found rate (pair_found loss c.in_ok-limit.ensures))
 
 in_place : InPlace code.function
 in_place = refl

@@ -7,37 +7,36 @@ use Rattle.description.specs.Words.{senders_key, on_key, off_key}
 use Rattle.description.specs.Lines.{distribution_form}
 use Rattle.notation.proofs.Words.{spelt}
 use Rattle.description.proofs.Forms.{pair-first, pair_second, pair_found}
-use Rattle.description.proofs.Cases.{lf-ends}
 use Rattle.notation.specs.InPlace.{InPlace}
 use Rattle.description.proofs.lines.load_lines.Code as code
 use Rattle.description.proofs.lines.load_lines.Goals as goal
 
-pub value-requires : goal.value-requires
-value-requires c = lf-ends
+pub returns-in_err-senders : goal.returns-in_err-senders
+returns-in_err-senders c =
+    rw c.from_residual.ensures (pair-first (pair (distribution_form on_key) (distribution_form off_key)) (c.in_err-senders.ensures senders_key (spelt 0 senders_key refl)))
 
-pub overflow_cast-result : goal.overflow_cast-result
-overflow_cast-result c = let f = rw c.in-At.is at (c.value.ensures senders_key (spelt 0 senders_key refl)) in record { fits = omega (arith, f.fits) }
+pub returns-in_err-on : goal.returns-in_err-on
+returns-in_err-on c =
+    let senders = c.in_ok-senders.ensures senders_key (spelt 0 senders_key refl) in
+    rw c.from_residual-in_err-on.ensures (pair_second senders (pair-first (distribution_form off_key) (c.in_err-on.ensures on_key (spelt 0 on_key refl))))
 
-pub returns-in-At-distribution_line-2 : goal.returns-in-At-distribution_line-2
-returns-in-At-distribution_line-2 c =
-    pair_found (rw c.in-At.is at (c.value.ensures senders_key (spelt 0 senders_key refl)))
-    (pair_found (rw c.in-At-distribution_line.is at (c.distribution_line.ensures on_key (spelt 0 on_key refl)))
-    (rw c.in-At-distribution_line-2.is at (c.distribution_line-in-At-distribution_line.ensures off_key (spelt 0 off_key refl))))
+pub returns-in_err-off : goal.returns-in_err-off
+returns-in_err-off c =
+    let senders = c.in_ok-senders.ensures senders_key (spelt 0 senders_key refl) in
+    let on = c.in_ok-on.ensures on_key (spelt 0 on_key refl) in
+    rw c.from_residual-in_err-off.ensures (pair_second senders (pair_second on (c.in_err-off.ensures off_key (spelt 0 off_key refl))))
 
-pub returns-in-Refused-distribution_line-2 : goal.returns-in-Refused-distribution_line-2
-returns-in-Refused-distribution_line-2 c =
-    pair_second (rw c.in-At.is at (c.value.ensures senders_key (spelt 0 senders_key refl)))
-    (pair_second (rw c.in-At-distribution_line.is at (c.distribution_line.ensures on_key (spelt 0 on_key refl)))
-    (rw c.in-Refused-distribution_line-2.is at (c.distribution_line-in-At-distribution_line.ensures off_key (spelt 0 off_key refl))))
+pub overflow_cast-load : goal.overflow_cast-load
+overflow_cast-load c =
+    let senders = c.in_ok-senders.ensures senders_key (spelt 0 senders_key refl) in
+    record { fits = omega (arith, senders.fits) }
 
-pub returns-in-Refused-distribution_line : goal.returns-in-Refused-distribution_line
-returns-in-Refused-distribution_line c =
-    pair_second (rw c.in-At.is at (c.value.ensures senders_key (spelt 0 senders_key refl)))
-    (pair-first (distribution_form off_key) (rw c.in-Refused-distribution_line.is at (c.distribution_line.ensures on_key (spelt 0 on_key refl))))
-
-pub returns-in-Refused : goal.returns-in-Refused
-returns-in-Refused c =
-    pair-first (pair (distribution_form on_key) (distribution_form off_key)) (rw c.in-Refused.is at (c.value.ensures senders_key (spelt 0 senders_key refl)))
+pub returns : goal.returns
+returns c =
+    let senders = c.in_ok-senders.ensures senders_key (spelt 0 senders_key refl) in
+    let on = c.in_ok-on.ensures on_key (spelt 0 on_key refl) in
+    let off = c.in_ok-off.ensures off_key (spelt 0 off_key refl) in
+    pair_found senders (pair_found on off)
 
 in_place : InPlace code.function
 in_place = refl

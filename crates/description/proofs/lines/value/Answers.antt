@@ -1,7 +1,6 @@
 -- `description::lines::value` meets its contract: a word, then a number.
 -- Assumes nothing.
 use mathlib.Core.Path.{refl}
-use Rattle.notation.specs.Reading.{numbered}
 use Rattle.description.specs.Lines.{kind_form}
 use Rattle.notation.proofs.Words.{key_is}
 use Rattle.description.proofs.Forms.{key_absent, key_then}
@@ -9,13 +8,15 @@ use Rattle.notation.specs.InPlace.{InPlace}
 use Rattle.description.proofs.lines.value.Code as code
 use Rattle.description.proofs.lines.value.Goals as goal
 
-pub returns-in-At : goal.returns-in-At
-returns-in-At c w r =
+pub returns-in_err-next : goal.returns-in_err-next
+returns-in_err-next c =
     let a = c.args in
-    key_then (kind_form a.kind a.end) (key_is r (rw c.in-At.is at c.key.ensures) refl) (numbered c.ended.result) c.ended.ensures
+    λ w r. rw c.from_residual.ensures (key_absent (kind_form a.kind a.end) (c.in_err-next.ensures w r))
 
-pub returns-in-Refused : goal.returns-in-Refused
-returns-in-Refused c w r = let a = c.args in key_absent (kind_form a.kind a.end) ((rw c.in-Refused.is at c.key.ensures) w r)
+pub returns : goal.returns
+returns c =
+    let a = c.args in
+    λ w r. key_then (kind_form a.kind a.end) (key_is r c.in_ok-next.ensures refl) c.ended.result c.ended.ensures
 
 in_place : InPlace code.function
 in_place = refl

@@ -1,4 +1,4 @@
--- `notation::scan::digit` meets its contract: each test leaves a range of bytes, and a law says of each range which digits it holds.
+-- `notation::scan::digit` meets its contract: each arm is a range of bytes, and a law says of each range which digits it holds.
 -- Assumes nothing.
 use mathlib.Core.Path.{refl}
 use native.Mathlib.Omega.{arith}
@@ -7,20 +7,20 @@ use Rattle.notation.specs.InPlace.{InPlace}
 use Rattle.notation.proofs.scan.digit.Code as code
 use Rattle.notation.proofs.scan.digit.Goals as goal
 
-pub returns-then-x-lt48 : goal.returns-then-x-lt48
-returns-then-x-lt48 c = digit_none _ (λ d l e. omega arith) (λ d l h e. omega arith)
+pub returns-in-48-to-57 : goal.returns-in-48-to-57
+returns-in-48-to-57 c = digit_low _ (omega arith) (omega arith)
 
-pub returns-then-x-lt58 : goal.returns-then-x-lt58
-returns-then-x-lt58 c = digit_low _ c.if-x-lt48.false c.if-x-lt58.true
+pub returns-in-97-to-102 : goal.returns-in-97-to-102
+returns-in-97-to-102 c = digit_high _ (omega arith) (omega arith)
 
-pub returns-then-x-lt97 : goal.returns-then-x-lt97
-returns-then-x-lt97 c = digit_none _ (λ d l e. omega arith) (λ d l h e. omega arith)
+pub returns-in_default : goal.returns-in_default
+returns-in_default c = digit_none _ (λ d l e. omega arith) (λ d l h e. omega arith)
 
-pub returns-then-x-lt103 : goal.returns-then-x-lt103
-returns-then-x-lt103 c = digit_high _ c.if-x-lt97.false c.if-x-lt103.true
+pub returns-in_default-2 : goal.returns-in_default-2
+returns-in_default-2 c = digit_none _ (λ d l e. omega arith) (λ d l h e. omega arith)
 
-pub returns : goal.returns
-returns c = digit_none _ (λ d l e. omega arith) (λ d l h e. omega arith)
+pub returns-in_default-3 : goal.returns-in_default-3
+returns-in_default-3 c = digit_none _ (λ d l e. omega arith) (λ d l h e. omega arith)
 
 in_place : InPlace code.function
 in_place = refl

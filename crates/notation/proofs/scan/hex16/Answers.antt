@@ -9,38 +9,32 @@ use Rattle.notation.specs.InPlace.{InPlace}
 use Rattle.notation.proofs.scan.hex16.Code as code
 use Rattle.notation.proofs.scan.hex16.Goals as goal
 
-pub overflow_sub-next : goal.overflow_sub-next
-overflow_sub-next c =
-    let p = rw c.in-At.is at c.digits.ensures in
-    omega (arith, p.0.count)
+pub returns-in_err-value : goal.returns-in_err-value
+returns-in_err-value c =
+    let a = c.args in
+    rw c.from_residual.ensures (ended_too_large hexadecimal a.end c.requires a.text.now a.at c.in_err-value.ensures)
 
 pub returns-then-next-at-ne16 : goal.returns-then-next-at-ne16
 returns-then-next-at-ne16 c =
     let a = c.args in
-    let p = rw c.in-At.is at c.digits.ensures in
+    let p = c.in_ok-value.ensures in
     ended_unspelt hexadecimal a.end c.requires a.text.now a.at _ _ p.0 p.1
     (λ w h e. omega (arith, hex_length w, ap length e, p.0.count, c.if-next-at-ne16.true))
 
-pub returns-in-At-byte : goal.returns-in-At-byte
-returns-in-At-byte c =
+pub returns-in_err-byte : goal.returns-in_err-byte
+returns-in_err-byte c =
     let a = c.args in
-    let p = rw c.in-At.is at c.digits.ensures in
-    let q = rw c.in-At-byte.is at c.byte.ensures in
+    let p = c.in_ok-value.ensures in
+    let q = c.in_err-byte.ensures in
+    rw c.from_residual-in_err-byte.ensures (ended_open hexadecimal a.end c.requires a.text.now a.at _ _ p.0 p.1 q)
+
+pub returns : goal.returns
+returns c =
+    let a = c.args in
+    let p = c.in_ok-value.ensures in
+    let q = c.in_ok-byte.ensures in
     ended-found hexadecimal a.end c.requires a.text.now a.at _ _ p.0 p.1
     (omega (arith, p.0.small)) (run_hex p.0.run (omega (arith, p.0.count, c.if-next-at-ne16.false))) q
-
-pub returns-in-Refused-byte : goal.returns-in-Refused-byte
-returns-in-Refused-byte c =
-    let a = c.args in
-    let p = rw c.in-At.is at c.digits.ensures in
-    let q = rw c.in-Refused-byte.is at c.byte.ensures in
-    ended_open hexadecimal a.end c.requires a.text.now a.at _ _ p.0 p.1 q
-
-pub returns-in-Refused : goal.returns-in-Refused
-returns-in-Refused c =
-    let a = c.args in
-    let p = rw c.in-Refused.is at c.digits.ensures in
-    ended_too_large hexadecimal a.end c.requires a.text.now a.at p
 
 in_place : InPlace code.function
 in_place = refl

@@ -1,4 +1,4 @@
--- `notation::scan::led` meets its contract: each test is that of `led_by_zero`.
+-- `notation::scan::led` meets its contract.
 -- Assumes nothing.
 use mathlib.Core.Path.{refl}
 use Rattle.notation.specs.InPlace.{InPlace}

@@ -1,23 +1,23 @@
--- `notation::scan::word` meets its contract. The invariant: what was passed is letters with the value so far. The measure is what is left of the text.
+-- `notation::scan::word` meets its contract. The invariant: what was passed is letters with the value so far.
 -- Assumes nothing.
 use mathlib.Core.Path.{refl, sym, ◌∙◌}
 use native.Mathlib.Omega.{arith}
-use Rattle.notation.proofs.Words.{passed_none, passed-more, word_some, word-ends, word-long}
+use Rattle.notation.proofs.Words.{passed-more, word_some, word-ends, word-long}
 use Rattle.notation.specs.InPlace.{InPlace}
 use Rattle.notation.proofs.scan.word.Code as code
 use Rattle.notation.proofs.scan.word.Goals as goal
 
-pub loop-next-init : goal.loop-next-init
-loop-next-init c = passed_none _ _
+pub returns-in_err-value : goal.returns-in_err-value
+returns-in_err-value c =
+    rw c.from_residual.ensures (word-long _ _ _ _ c.loop-next.invariant (let far = c.in_err-value.ensures in omega arith))
 
-pub returns-then-value-gt72057594037927935 : goal.returns-then-value-gt72057594037927935
-returns-then-value-gt72057594037927935 c = word-long _ _ _ _ c.loop-next.invariant (omega (arith, c.if-value-gt72057594037927935.true))
-
-pub returns-then-not-letter : goal.returns-then-not-letter
-returns-then-not-letter c = word_some _ _ _ _ c.loop-next.invariant c.loop-next-test.true (omega arith) (sym c.letter.ensures ∙ c.if-not-letter.true)
+pub returns-then-not-is_ascii_lowercase : goal.returns-then-not-is_ascii_lowercase
+returns-then-not-is_ascii_lowercase c =
+    rw c.in_ok-value.ensures.1 (word_some _ _ _ _ c.loop-next.invariant c.loop-next-test.true (omega arith) (sym c.is_ascii_lowercase.ensures.value ∙ c.if-not-is_ascii_lowercase.true))
 
 pub loop-next-preserved : goal.loop-next-preserved
-loop-next-preserved c = passed-more _ _ _ _ c.loop-next.invariant c.loop-next-test.true (sym c.letter.ensures ∙ c.if-not-letter.false)
+loop-next-preserved c =
+    rw c.in_ok-value.ensures.1 (passed-more _ _ _ _ c.loop-next.invariant c.loop-next-test.true (sym c.is_ascii_lowercase.ensures.value ∙ c.if-not-is_ascii_lowercase.false))
 
 pub returns : goal.returns
 returns c = word-ends _ _ _ _ c.loop-next.invariant c.loop-next-test.false

@@ -1,8 +1,8 @@
--- `notation::scan::letter` meets its contract: each test is that of `is_letter`.
+-- `description::Malformed::number` meets its contract.
 -- Assumes nothing.
 use mathlib.Core.Path.{refl}
 use Rattle.notation.specs.InPlace.{InPlace}
-use Rattle.notation.proofs.scan.letter.Code as code
+use Rattle.description.proofs.Malformed.number.Code as code
 
 in_place : InPlace code.function
 in_place = refl
