@@ -1,12 +1,12 @@
 -- The bytes that the text program hands to its writes, turn by turn. Definitions only.
-use Rattle.std.specs.Prelude.{ℕ, ◌≤◌, ◌<◌, false, ◌≡◌, length, take}
+use Rattle.std.specs.Prelude.{ℕ, ◌≤◌, ◌<◌, false, ◌≡◌, length, take, Result, Ok, Err}
 use mathlib.Core.List.{◌++◌, flatten}
 use Rattle.report.specs.declared.run.Report.{Report}
 use Rattle.report.specs.Report.{left_of}
 use Rattle.filling.specs.Filling.{none_left}
 use Rattle.console.specs.declared.Turn.{Turn}
-use Rattle.console.specs.declared.output.Handed.{Handed}
-use Rattle.console.specs.declared.output.Handed.TheVariants.{All, Failed}
+use Rattle.console.specs.declared.output.Tally.{Tally}
+use Rattle.console.specs.declared.output.WriteFailed.{WriteFailed}
 
 -- a turn's bytes, then those that its report has left, are the report's; where any line is left, there are fewer than before
 pub record TurnIs (report : Report) (t : Turn) : Type 0 where
@@ -17,6 +17,6 @@ pub record TurnIs (report : Report) (t : Turn) : Type 0 where
   pub fewer : t.done ≡ false → length (left_of t.report) < length (left_of report)
 
 -- n bytes were handed over, or a write failed
-abbrev pub HandedIs : ℕ → Handed → Type 0
-HandedIs n (All t) = t.0 ≡ n
-HandedIs n Failed = Unit
+abbrev pub HandedIs : ℕ → Result Tally WriteFailed → Type 0
+HandedIs n (Ok t) = t.0 ≡ n
+HandedIs n (Err e) = Unit

@@ -24,8 +24,5 @@ pub(crate) fn fill(from: &mut Stdin, buffer: &mut [u8]) -> usize
 fn read_some(from: &mut Stdin, part: &mut [u8]) -> usize
     ensures { IsPrefixLen result part.new }
 {
-    match from.read(part) {
-        Ok(got) => got,
-        Err(_) => 0,
-    }
+    from.read(part).unwrap_or(0)
 }

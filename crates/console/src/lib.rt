@@ -10,7 +10,7 @@ ghost use Rattle.console.specs.Turns.{TurnIs, HandedIs};
 mod input;
 mod output;
 
-use crate::output::Handed;
+use crate::output::{Tally, WriteFailed};
 use report::Report;
 
 // A part of a report: the first so many bytes of a buffer, whether nothing is left after them, and the
@@ -24,15 +24,15 @@ struct Turn {
 }
 
 // Reads a text from standard input and prints its report. No description has as many bytes as the
-// buffer, so what is read of a longer input is none.
+// buffer, so what is read of a longer input is none. A write that fails has been told on standard error.
 pub fn run(rt: &HostRuntime) {
     let mut text = [0u8; 4096];
     let got = input::fill(&mut rt.stdin(), &mut text);
-    print_text(rt, &text[..got]);
+    let _ = print_text(rt, &text[..got]);
 }
 
 // Prints the report of a text: as many bytes are handed over as it has, unless a write fails.
-fn print_text(rt: &HostRuntime, text: &[u8]) -> Handed
+fn print_text(rt: &HostRuntime, text: &[u8]) -> Result<Tally, WriteFailed>
     ensures { ForText text.now (λ d. HandedIs (length (flatten (left_of (report_of d)))) result) }
 {
     print(rt, report::report_of(text))
@@ -40,32 +40,21 @@ fn print_text(rt: &HostRuntime, text: &[u8]) -> Handed
 
 // Prints a report turn by turn. There are at most 65,536 records, a stop line and 16 flows, and each
 // turn has a line at least, so the turns are enough.
-fn print(rt: &HostRuntime, report: Report) -> Handed
+fn print(rt: &HostRuntime, report: Report) -> Result<Tally, WriteFailed>
     requires { length (left_of report) ≤ 65553 }
     ensures { HandedIs (length (flatten (left_of report))) result }
 {
     let mut left = report;
     let mut tally = output::nothing();
-    let mut turns: u32 = 65553;
-    while 0 < turns {
-        let t = next_turn(left);
-        let bytes = t.bytes;
-        let n = t.count;
-        match output::hand(rt, tally, &bytes[..n]) {
-            Handed::All(after) => {
-                if t.done {
-                    return Handed::All(after);
-                }
-                tally = after;
-                left = t.report;
-                turns -= 1;
-            }
-            Handed::Failed => {
-                return Handed::Failed;
-            }
+    for _ in 0..65553 {
+        let turn = next_turn(left);
+        tally = output::hand(rt, tally, &turn.bytes[..turn.count])?;
+        if turn.done {
+            break;
         }
+        left = turn.report;
     }
-    Handed::All(tally)
+    Ok(tally)
 }
 
 // The next part of a report: as many of its lines as the buffer has room for, one at least where any
@@ -74,14 +63,11 @@ fn next_turn(report: Report) -> Turn
     ensures { TurnIs report result }
 {
     let mut bytes = [0u8; 65536];
-    let f = filling::fill(&mut bytes, report);
-    let count = f.at;
-    let done = f.done;
-    let left = f.report;
+    let filled = filling::fill(&mut bytes, report);
     Turn {
         bytes,
-        count,
-        done,
-        report: left,
+        count: filled.at,
+        done: filled.done,
+        report: filled.report,
     }
 }

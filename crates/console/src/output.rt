@@ -7,12 +7,9 @@ ghost use Rattle.console.specs.Turns.{HandedIs};
 #[derive(Clone, Copy)]
 pub struct Tally(u64);
 
-// All bytes so far were taken, or a write failed.
-#[derive(Clone, Copy)]
-pub enum Handed {
-    All(Tally),
-    Failed,
-}
+// A write failed, and a line on standard error says so.
+#[derive(Clone, Copy, PartialEq, Eq)]
+pub struct WriteFailed;
 
 // Nothing was handed over yet.
 pub(crate) fn nothing() -> Tally
@@ -24,13 +21,17 @@ pub(crate) fn nothing() -> Tally
 // Hands bytes to standard output. Where the write fails, a line on standard error says so.
 //
 // A helper within this crate, and no entry point: the caller shows that the tally stays below 2^64.
-pub(crate) fn hand(rt: &(impl Print + Eprint), tally: Tally, bytes: &[u8]) -> Handed
+pub(crate) fn hand(
+    rt: &(impl Print + Eprint),
+    tally: Tally,
+    bytes: &[u8],
+) -> Result<Tally, WriteFailed>
     requires { tally.0 + length bytes.now < 2 ^ 64 }
     ensures { HandedIs (tally.0 + length bytes.now) result }
 {
-    if rt.write_all(bytes).is_ok() {
-        return Handed::All(Tally(tally.0 + bytes.len() as u64));
+    if rt.write_all(bytes).is_err() {
+        let _ = eprintln!(rt; "remyline: the output could not be written");
+        return Err(WriteFailed);
     }
-    let _ = eprintln!(rt; "remyline: the output could not be written");
-    Handed::Failed
+    Ok(Tally(tally.0 + bytes.len() as u64))
 }

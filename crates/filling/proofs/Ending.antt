@@ -1,4 +1,5 @@
 -- The flows, the end of a run and a refusal, line by line; the records, then the end; a whole report. Assumes nothing.
+use Rattle.std.proofs.Common.{Option, Some, None}
 use Prim.Native.Nat.{ℕ, suc, ◌+◌, ◌-◌, ◌≤◌, ◌<◌}
 use native.Mathlib.Nat.{zero-add, add-zero}
 use native.Mathlib.Omega.{arith}
@@ -14,8 +15,6 @@ use Rattle.remy.specs.declared.simulation.Ran.{Ran}
 use Rattle.remy.specs.State.{sender_at, meter_at}
 use Rattle.remy.specs.Run.{run_of}
 use Rattle.remy.proofs.Steps.{cond_elim}
-use Rattle.printer.specs.declared.Put.{Put}
-use Rattle.printer.specs.declared.Put.TheVariants as Put
 use Rattle.printer.specs.Printing.{PutIs, refused_text}
 use Rattle.lines.specs.Lines.{record_lines, stop_line, flow_at, flow_line, flow_lines, flow_count, flows_from, end_lines, run_lines}
 use Rattle.report.specs.declared.run.Stage.{Stage}
@@ -47,12 +46,12 @@ module _ (s : Simulation) (i : ℕ) where
       ap (λ (k : ℕ). flow_lines s k i) e
 
   module _ (d : List ℕ) (at : ℕ) where
-    module _ (clock : Time) (ec : clock ≡ s.head.clock) (x : Put) (mid : List ℕ)
+    module _ (clock : Time) (ec : clock ≡ s.head.clock) (x : Option ℕ) (mid : List ℕ)
         (w : PutIs (flow_at i (sender_at s i) (meter_at s i) clock) d at x mid) (h : i < flow_count s) where
       this : PutIs (flow_line s i) d at x mid
       this = subst (λ (c : Time). PutIs (flow_at i (sender_at s i) (meter_at s i) c) d at x mid) ec w
 
-      pub flow_goes : (next : ℕ) → x ≡ Put.At next → (r : Filled) (after : List ℕ)
+      pub flow_goes : (next : ℕ) → x ≡ Some next → (r : Filled) (after : List ℕ)
           → PutBy (filled_by (rest_at s (Stage.Flows (i + 1)))) (flows_from s (i + 1)) mid next r after → PutBy (filled_by (rest_at s (Stage.Flows i))) (flows_from s i) d at r after
       flow_goes next e r after v =
           rw (flows_more h)
@@ -60,7 +59,7 @@ module _ (s : Simulation) (i : ℕ) where
           (filled_as (rest_at s (Stage.Flows (i + 1))) (λ (k : ℕ). rest_at s (Stage.Flows i) (1 + k)) (flows_from s (i + 1)) mid next r after
           (λ (k : ℕ). let more : i + 1 + k ≡ i + (1 + k) = omega arith in ap (λ (j : ℕ). flows_at j s) more) v))
 
-      pub flow-full : x ≡ Put.Full → PutBy (filled_by (rest_at s (Stage.Flows i))) (flows_from s i) d at (record { at = at; done = false; report = report_at (Stage.Flows i) s }) mid
+      pub flow-full : x ≡ None → PutBy (filled_by (rest_at s (Stage.Flows i))) (flows_from s i) d at (record { at = at; done = false; report = report_at (Stage.Flows i) s }) mid
       unfolding flows_at
       flow-full e = rw (flows_more h) (put_full (filled_by (rest_at s (Stage.Flows i))) _ _ d at x mid this e _ (rw (add-zero i, lt-ltb i (flow_count s) h)))
 
@@ -70,8 +69,8 @@ module _ (s : Simulation) (i : ℕ) where
 
 -- ---- the end
 
-module _ (number : ℕ) (s : Simulation) (d : List ℕ) (at : ℕ) (x : Put) (mid : List ℕ) (w : PutIs (stop_line number s) d at x mid) where
-  pub end_goes : (next : ℕ) → x ≡ Put.At next → (r : Filled) (after : List ℕ)
+module _ (number : ℕ) (s : Simulation) (d : List ℕ) (at : ℕ) (x : Option ℕ) (mid : List ℕ) (w : PutIs (stop_line number s) d at x mid) where
+  pub end_goes : (next : ℕ) → x ≡ Some next → (r : Filled) (after : List ℕ)
       → PutBy (filled_by (rest_at s (Stage.Flows 0))) (flows_from s 0) mid next r after → PutBy (filled_by (rest_at s (Stage.Stop number))) (end_lines number s) d at r after
   unfolding end_lines
   end_goes next e r after v =
@@ -79,18 +78,18 @@ module _ (number : ℕ) (s : Simulation) (d : List ℕ) (at : ℕ) (x : Put) (mi
       (filled_as (rest_at s (Stage.Flows 0)) (λ (k : ℕ). rest_at s (Stage.Stop number) (1 + k)) (flows_from s 0) mid next r after
       (λ (k : ℕ). let one : 1 + k ≡ suc k = omega arith in rw (zero-add k, one)) v)
 
-  pub end_full : x ≡ Put.Full → PutBy (filled_by (rest_at s (Stage.Stop number))) (end_lines number s) d at (record { at = at; done = false; report = report_at (Stage.Stop number) s }) mid
+  pub end_full : x ≡ None → PutBy (filled_by (rest_at s (Stage.Stop number))) (end_lines number s) d at (record { at = at; done = false; report = report_at (Stage.Stop number) s }) mid
   unfolding end_lines
   end_full e = put_full (filled_by (rest_at s (Stage.Stop number))) _ _ d at x mid w e _ refl
 
 -- ---- a refusal
 
-module _ (number : ℕ) (s : Simulation) (d : List ℕ) (at : ℕ) (x : Put) (mid : List ℕ) (w : PutIs (refused_text number) d at x mid) where
-  pub refused_put : (next : ℕ) → x ≡ Put.At next
+module _ (number : ℕ) (s : Simulation) (d : List ℕ) (at : ℕ) (x : Option ℕ) (mid : List ℕ) (w : PutIs (refused_text number) d at x mid) where
+  pub refused_put : (next : ℕ) → x ≡ Some next
       → PutBy (filled_by (rest_at s (Stage.Refused number))) (refused_text number ∷ []) d at (record { at = next; done = true; report = report_at Stage.Done s }) mid
   refused_put next e = put_line (filled_by (rest_at s (Stage.Refused number))) _ [] d at x mid w next e _ mid (put_none _ [] mid next refl _ refl)
 
-  pub refused_full : x ≡ Put.Full
+  pub refused_full : x ≡ None
       → PutBy (filled_by (rest_at s (Stage.Refused number))) (refused_text number ∷ []) d at (record { at = at; done = false; report = report_at (Stage.Refused number) s }) mid
   refused_full e = put_full (filled_by (rest_at s (Stage.Refused number))) _ [] d at x mid w e _ refl
 
@@ -209,13 +208,13 @@ module _ (report : Report) (d : List ℕ) where
     place : f.at ≡ (puts (left_of report) d 0).at
     place = ap (λ (x : Filled). x.at) w.answer
 
-    pub all_put : f.done ≡ true → AllPut report d (Put.At f.at) after
-    all_put e = record { answer = rw (← done_is, e) (ap Put.At place); bytes = w.bytes; short = w.short }
+    pub all_put : f.done ≡ true → AllPut report d (Some f.at) after
+    all_put e = record { answer = rw (← done_is, e) (ap Some place); bytes = w.bytes; short = w.short }
 
-    pub too_long : f.done ≡ false → AllPut report d Put.Full after
+    pub too_long : f.done ≡ false → AllPut report d None after
     too_long e = record { answer = rw (← done_is, e) refl; bytes = w.bytes; short = w.short }
 
-pub all_as : {x y : Report} {d after : List ℕ} {r : Put} → x ≡ y → AllPut x d r after → AllPut y d r after
+pub all_as : {x y : Report} {d after : List ℕ} {r : Option ℕ} → x ≡ y → AllPut x d r after → AllPut y d r after
 all_as {d = d} {after = after} {r = r} e w = subst (λ (z : Report). AllPut z d r after) e w
 
 -- ---- a report without its records

@@ -1,4 +1,5 @@
 -- Lines put one after the other, and what is answered of them. Assumes nothing.
+use Rattle.std.proofs.Common.{Option, Some, None}
 use Prim.Native.Nat.{ℕ, suc, ◌+◌, ◌*◌, ◌≤◌}
 use native.Mathlib.Omega.{arith}
 use native.Mathlib.Nat.{zero-add}
@@ -9,16 +10,14 @@ use lib.Dec.{leb}
 use borrow.Author.Tests.{leb-true}
 use lib.ListN.{length, drop}
 use Rattle.remy.proofs.Steps.{cond_elim}
-use Rattle.printer.specs.declared.Put.{Put}
-use Rattle.printer.specs.declared.Put.TheVariants as Put
 use Rattle.printer.specs.Printing.{written, PutIs}
 use Rattle.report.specs.declared.run.Report.{Report}
 use Rattle.filling.specs.declared.Filled.{Filled}
 use Rattle.filling.specs.Filling.{Puts, puts, none_left, PutBy, filled_by}
 
-abbrev is_at : Put → Bool
-is_at (Put.At n) = true
-is_at Put.Full = false
+abbrev is_at : Option ℕ → Bool
+is_at (Some n) = true
+is_at None = false
 
 -- k lines were put before
 abbrev pub further : ℕ → Puts → Puts
@@ -26,13 +25,13 @@ further k p = record { at = p.at; count = k + p.count; out = p.out; rest = p.res
 
 -- ---- one line
 
-module _ (l : List ℕ) (ls : List (List ℕ)) (d : List ℕ) (at : ℕ) (r : Put) (after : List ℕ) (p : PutIs l d at r after) where
+module _ (l : List ℕ) (ls : List (List ℕ)) (d : List ℕ) (at : ℕ) (r : Option ℕ) (after : List ℕ) (p : PutIs l d at r after) where
   -- it was put: the others follow it
-  pub line_put : (next : ℕ) → r ≡ Put.At next → (puts (l ∷ ls) d at ≡ further 1 (puts ls after next)) × (next ≤ at + 128)
+  pub line_put : (next : ℕ) → r ≡ Some next → (puts (l ∷ ls) d at ≡ further 1 (puts ls after next)) × (next ≤ at + 128)
   unfolding puts
   line_put next q = goes (leb (at + 128) (length d)) refl (sym q ∙ p.answer) p.bytes
     where
-      goes : (b : Bool) → leb (at + 128) (length d) ≡ b → Put.At next ≡ cond b (Put.At (at + length l)) Put.Full → after ≡ cond b (written d at l) d
+      goes : (b : Bool) → leb (at + 128) (length d) ≡ b → Some next ≡ cond b (Some (at + length l)) None → after ≡ cond b (written d at l) d
           → (cond b (further 1 (puts ls (written d at l) (at + length l))) (record { at = at; count = 0; out = d; rest = l ∷ ls }) ≡ further 1 (puts ls after next)) × (next ≤ at + 128)
       goes true e a o =
           let place : next ≡ at + length l = cc in
@@ -41,11 +40,11 @@ module _ (l : List ℕ) (ls : List (List ℕ)) (d : List ℕ) (at : ℕ) (r : Pu
       goes false e a o = absurd (true≢false (ap is_at a))
 
   -- it was not: it is the first that is left
-  pub line-left : r ≡ Put.Full → puts (l ∷ ls) d at ≡ record { at = at; count = 0; out = after; rest = l ∷ ls }
+  pub line-left : r ≡ None → puts (l ∷ ls) d at ≡ record { at = at; count = 0; out = after; rest = l ∷ ls }
   unfolding puts
   line-left q = stays (leb (at + 128) (length d)) (sym q ∙ p.answer) p.bytes
     where
-      stays : (b : Bool) → Put.Full ≡ cond b (Put.At (at + length l)) Put.Full → after ≡ cond b (written d at l) d
+      stays : (b : Bool) → None ≡ cond b (Some (at + length l)) None → after ≡ cond b (written d at l) d
           → cond b (further 1 (puts ls (written d at l) (at + length l))) (record { at = at; count = 0; out = d; rest = l ∷ ls }) ≡ record { at = at; count = 0; out = after; rest = l ∷ ls }
       stays true a o = absurd (true≢false (sym (ap is_at a)))
       stays false a o = ap (λ (x : List ℕ). record { at = at; count = 0; out = x; rest = l ∷ ls }) (sym o)
@@ -139,11 +138,11 @@ module _ {A : Type 0} (f : Puts → A) (ls : List (List ℕ)) (d : List ℕ) (at
   pub put_as : (g : Puts → A) → ((p : Puts) → f p ≡ g p) → (r : A) (after : List ℕ) → PutBy f ls d at r after → PutBy g ls d at r after
   put_as g e r after w = record { answer = w.answer ∙ e (puts ls d at); bytes = w.bytes; short = w.short }
 
-module _ {A : Type 0} (f : Puts → A) (l : List ℕ) (ls : List (List ℕ)) (d : List ℕ) (at : ℕ) (x : Put) (mid : List ℕ) (p : PutIs l d at x mid) where
-  pub put_line : (next : ℕ) → x ≡ Put.At next → (r : A) (after : List ℕ) → PutBy (λ (q : Puts). f (further 1 q)) ls mid next r after → PutBy f (l ∷ ls) d at r after
+module _ {A : Type 0} (f : Puts → A) (l : List ℕ) (ls : List (List ℕ)) (d : List ℕ) (at : ℕ) (x : Option ℕ) (mid : List ℕ) (p : PutIs l d at x mid) where
+  pub put_line : (next : ℕ) → x ≡ Some next → (r : A) (after : List ℕ) → PutBy (λ (q : Puts). f (further 1 q)) ls mid next r after → PutBy f (l ∷ ls) d at r after
   put_line next e = let w = line_put l ls d at x mid p next e in let h = w.1 in put_further f (l ∷ ls) d at 1 ls mid next w.0 (omega (arith, h))
 
-  pub put_full : x ≡ Put.Full → (r : A) → r ≡ f (record { at = at; count = 0; out = mid; rest = l ∷ ls }) → PutBy f (l ∷ ls) d at r mid
+  pub put_full : x ≡ None → (r : A) → r ≡ f (record { at = at; count = 0; out = mid; rest = l ∷ ls }) → PutBy f (l ∷ ls) d at r mid
   put_full e = put_known f (l ∷ ls) d at _ (line-left l ls d at x mid p e) (omega arith)
 
 pub put_none : {A : Type 0} (f : Puts → A) (ls : List (List ℕ)) (d : List ℕ) (at : ℕ) → ls ≡ []

@@ -1,4 +1,5 @@
 -- The records of a run, batch by batch. Assumes nothing.
+use Rattle.std.proofs.Common.{Option, Some, None}
 use Prim.Native.Nat.{ℕ, zero, suc, ◌+◌, ◌-◌, ◌*◌, ◌≤◌, ◌<◌}
 use native.Mathlib.Nat.{zero-add, add-zero}
 use native.Mathlib.Numerals.{add-one}
@@ -21,8 +22,6 @@ use Rattle.remy.specs.Joins.{Ended}
 use Rattle.remy.proofs.Joins.{runs_join, tick_by_tick}
 use Rattle.remy.proofs.Records.{notes_done, run_most, batch-within, first_notes}
 use Rattle.remy.proofs.Steps.{cond_elim}
-use Rattle.printer.specs.declared.Put.{Put}
-use Rattle.printer.specs.declared.Put.TheVariants as Put
 use Rattle.printer.specs.Printing.{PutIs}
 use Rattle.lines.specs.Lines.{record_line, record_lines}
 use Rattle.lines.proofs.Joins.{record_lines_join}
@@ -138,14 +137,14 @@ module _ (done : ℕ) (records : List Noted) (i : ℕ) (few : done ≤ length re
   notes_long : length (take done records) ≡ done
   notes_long = length-take-le done records few
 
-  module _ (z : Noted) (d : List ℕ) (at : ℕ) (x : Put) (mid : List ℕ) (w : PutIs (record_line (get_or records i z).note) d at x mid) (h : i < done) where
+  module _ (z : Noted) (d : List ℕ) (at : ℕ) (x : Option ℕ) (mid : List ℕ) (w : PutIs (record_line (get_or records i z).note) d at x mid) (h : i < done) where
     notes_more : map noted_line (drop i (take done records)) ≡ record_line (get_or records i z).note ∷ map noted_line (drop (i + 1) (take done records))
     notes_more =
         let long = notes_long in
         let below : i < length (take done records) = omega (arith, long, h) in
         rw (drop-cons (take done records) i z below, get_or-take done records i z h, add-one i) refl
 
-    pub note_goes : (next : ℕ) → x ≡ Put.At next
+    pub note_goes : (next : ℕ) → x ≡ Some next
         → From (λ (p : Puts). batch_by (further i p)) (map noted_line (drop i (take done records))) d at
         (λ (p : Puts). batch_by (further (i + 1) p)) (map noted_line (drop (i + 1) (take done records))) mid next
     note_goes next e r after v =
@@ -154,7 +153,7 @@ module _ (done : ℕ) (records : List Noted) (i : ℕ) (few : done ≤ length re
         (put_as (λ (p : Puts). batch_by (further (i + 1) p)) _ mid next (λ (p : Puts). batch_by (further i (further 1 p)))
         (λ (p : Puts). let more : i + 1 + p.count ≡ i + (1 + p.count) = omega arith in ap (λ (k : ℕ). record { count = k; at = p.at }) more) r after v))
 
-    pub note_full : x ≡ Put.Full → PutBy (λ (p : Puts). batch_by (further i p)) (map noted_line (drop i (take done records))) d at (record { count = i; at = at }) mid
+    pub note_full : x ≡ None → PutBy (λ (p : Puts). batch_by (further i p)) (map noted_line (drop i (take done records))) d at (record { count = i; at = at }) mid
     note_full e = rw notes_more (put_full (λ (p : Puts). batch_by (further i p)) _ _ d at x mid w e _ (rw (add-zero i)))
 
   pub notes_end : done ≤ i → (d : List ℕ) (at : ℕ) → PutBy (λ (p : Puts). batch_by (further i p)) (map noted_line (drop i (take done records))) d at (record { count = i; at = at }) d

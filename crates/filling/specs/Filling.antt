@@ -1,10 +1,8 @@
 -- What of a report is put into a buffer, and what is then left of it. Definitions only.
-use Rattle.std.specs.Prelude.{ℕ, zero, suc, ◌+◌, ◌-◌, ◌*◌, ◌≤◌, Bool, true, false, cond, List, [], ◌∷◌, ◌≡◌, leb, ltb, length}
+use Rattle.std.specs.Prelude.{ℕ, zero, suc, ◌+◌, ◌-◌, ◌*◌, ◌≤◌, Bool, true, false, cond, List, [], ◌∷◌, ◌≡◌, leb, ltb, length, Option, Some, None}
 use Rattle.remy.specs.declared.simulation.Simulation.{Simulation}
 use Rattle.remy.specs.declared.simulation.Noted.{Noted}
 use Rattle.remy.specs.Run.{run_of}
-use Rattle.printer.specs.declared.Put.{Put}
-use Rattle.printer.specs.declared.Put.TheVariants as Put
 use Rattle.printer.specs.Printing.{written}
 use Rattle.report.specs.declared.run.Stage.{Stage}
 use Rattle.report.specs.declared.run.Stage.TheVariants as Stage
@@ -98,8 +96,8 @@ abbrev pub filled_by : (ℕ → Report) → Puts → Filled
 filled_by rest p = record { at = p.at; done = none_left p.rest; report = rest p.count }
 
 -- all lines are put and the position after them is answered, or there is too little room for them
-abbrev pub whole_by : Puts → Put
-whole_by p = cond (none_left p.rest) (Put.At p.at) Put.Full
+abbrev pub whole_by : Puts → Option ℕ
+whole_by p = cond (none_left p.rest) (Some p.at) None
 
 -- how many lines are put, and the position after them
 abbrev pub batch_by : Puts → Batch
@@ -115,5 +113,5 @@ abbrev pub FilledIs : Report → List ℕ → Filled → List ℕ → Type 0
 FilledIs report out r after = PutBy (filled_by (rest_of report)) (left_of report) out 0 r after
 
 -- all of a report's lines are put, or there is too little room for them
-abbrev pub AllPut : Report → List ℕ → Put → List ℕ → Type 0
+abbrev pub AllPut : Report → List ℕ → Option ℕ → List ℕ → Type 0
 AllPut report out r after = PutBy whole_by (left_of report) out 0 r after

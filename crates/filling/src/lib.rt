@@ -11,7 +11,7 @@ ghost use Rattle.report.specs.Report.{report_of, ForText};
 ghost use Rattle.filling.specs.Filling.{PutBy, batch_by, filled_by, noted_line, rest_at, end_of, FilledIs, AllPut};
 
 use lines::{flow_bytes, record_bytes, stop_bytes};
-use printer::{Put, refused_line};
+use printer::refused_line;
 use remy::{Noted, Simulation};
 use report::{Report, Stage, report_of};
 
@@ -45,33 +45,24 @@ fn put_batch(out: &mut [u8], at: usize, records: [Noted; 256], done: u32) -> Bat
     requires { done ≤ 256 }
     ensures { PutBy batch_by (map noted_line (take done records)) out.old at result out.new }
 {
-    let mut i = 0;
     let mut next = at;
-    while i < done {
-        let k = i as usize;
-        let noted = records[k];
-        let note = noted.note;
-        match record_bytes(out, next, note) {
-            Put::At(after) => {
-                i += 1;
-                next = after;
-            }
-            Put::Full => {
-                return Batch { count: i, at: next };
-            }
+    for i in 0..done {
+        match record_bytes(out, next, records[i as usize].note) {
+            Some(after) => next = after,
+            None => return Batch { count: i, at: next },
         }
     }
-    Batch { count: i, at: next }
+    Batch {
+        count: done,
+        at: next,
+    }
 }
 
 // Whether fewer ticks were done than a batch of those left has, so that the run ends there.
 fn ended(done: u32, left: u32) -> bool
     ensures { result ≡ ltb done (batch_of left) }
 {
-    if left < 256 {
-        return done < left;
-    }
-    done < 256
+    done < left.min(256)
 }
 
 // The records of n ticks, as many as have room. They are made in batches. Where a batch has no room, its
@@ -84,18 +75,15 @@ fn put_records(out: &mut [u8], at: usize, simulation: Simulation, n: u32) -> Fil
     let mut next = at;
     while 0 < left {
         let b = simulation::records(st, left);
-        let records = b.records;
-        let put = put_batch(out, next, records, b.done);
+        let put = put_batch(out, next, b.records, b.done);
         if put.count < b.done {
             let again = simulation::run(st, put.count);
-            let from = again.simulation;
-            return answer(put.at, false, Stage::Ticks(left - put.count), from);
+            return answer(put.at, false, Stage::Ticks(left - put.count), again.simulation);
         }
-        let last = b.simulation;
         if ended(b.done, left) {
-            return answer(put.at, true, Stage::Stop(b.number), last);
+            return answer(put.at, true, Stage::Stop(b.number), b.simulation);
         }
-        st = last;
+        st = b.simulation;
         left -= b.done;
         next = put.at;
     }
@@ -106,10 +94,7 @@ fn put_records(out: &mut [u8], at: usize, simulation: Simulation, n: u32) -> Fil
 fn flow_count(simulation: Simulation) -> u32
     ensures { result ≡ flow_count simulation }
 {
-    if simulation.network.senders < 16 {
-        return simulation.network.senders;
-    }
-    16
+    simulation.network.senders.min(16)
 }
 
 // The flows from a sender on, as many as have room.
@@ -118,20 +103,12 @@ fn put_flows(out: &mut [u8], at: usize, first: u32, simulation: Simulation) -> F
 {
     let n = flow_count(simulation);
     let clock = reading::time(simulation);
-    let mut i = first;
     let mut next = at;
-    while i < n {
+    for i in first..n {
         let k = i as usize;
-        let sender = simulation.senders[k];
-        let meter = simulation.meters[k];
-        match flow_bytes(out, next, i, sender, meter, clock) {
-            Put::At(after) => {
-                i += 1;
-                next = after;
-            }
-            Put::Full => {
-                return answer(next, false, Stage::Flows(i), simulation);
-            }
+        match flow_bytes(out, next, i, simulation.senders[k], simulation.meters[k], clock) {
+            Some(after) => next = after,
+            None => return answer(next, false, Stage::Flows(i), simulation),
         }
     }
     answer(next, true, Stage::Done, simulation)
@@ -142,8 +119,8 @@ fn put_end(out: &mut [u8], at: usize, number: u32, simulation: Simulation) -> Fi
     ensures { PutBy (filled_by (rest_at simulation (Stop number))) (end_lines number simulation) out.old at result out.new }
 {
     match stop_bytes(out, at, number, simulation) {
-        Put::At(next) => put_flows(out, next, 0, simulation),
-        Put::Full => answer(at, false, Stage::Stop(number), simulation),
+        Some(next) => put_flows(out, next, 0, simulation),
+        None => answer(at, false, Stage::Stop(number), simulation),
     }
 }
 
@@ -152,8 +129,8 @@ fn put_refused(out: &mut [u8], number: u32, simulation: Simulation) -> Filled
     ensures { PutBy (filled_by (rest_at simulation (Refused number))) (refused_text number ∷ []) out.old 0 result out.new }
 {
     match refused_line(out, 0, number) {
-        Put::At(at) => answer(at, true, Stage::Done, simulation),
-        Put::Full => answer(0, false, Stage::Refused(number), simulation),
+        Some(at) => answer(at, true, Stage::Done, simulation),
+        None => answer(0, false, Stage::Refused(number), simulation),
     }
 }
 
@@ -162,13 +139,8 @@ fn put_run(out: &mut [u8], n: u32, simulation: Simulation) -> Filled
     ensures { PutBy (filled_by (rest_at simulation (Ticks n))) (run_lines n simulation) out.old 0 result out.new }
 {
     let f = put_records(out, 0, simulation, n);
-    let report = f.report;
-    let stage = report.stage;
-    match stage {
-        Stage::Stop(number) => {
-            let stopped = report.simulation;
-            put_end(out, f.at, number, stopped)
-        }
+    match f.report.stage {
+        Stage::Stop(number) => put_end(out, f.at, number, f.report.simulation),
         _ => f,
     }
 }
@@ -177,9 +149,8 @@ fn put_run(out: &mut [u8], n: u32, simulation: Simulation) -> Filled
 pub fn fill(out: &mut [u8], report: Report) -> Filled
     ensures { FilledIs report out.old result out.new }
 {
-    let stage = report.stage;
     let simulation = report.simulation;
-    match stage {
+    match report.stage {
         Stage::Refused(number) => put_refused(out, number, simulation),
         Stage::Ticks(n) => put_run(out, n, simulation),
         Stage::Stop(number) => put_end(out, 0, number, simulation),
@@ -193,25 +164,23 @@ pub fn fill(out: &mut [u8], report: Report) -> Filled
 }
 
 // All lines of a report, put into a buffer: the position after them, or too little room.
-fn put_all(out: &mut [u8], report: Report) -> Put
+fn put_all(out: &mut [u8], report: Report) -> Option<usize>
     ensures { AllPut report out.old result out.new }
 {
     let f = fill(out, report);
-    if f.done { Put::At(f.at) } else { Put::Full }
+    f.done.then_some(f.at)
 }
 
 // The report without the records that it has left: their ticks are run.
 fn without_records(report: Report) -> Report
     ensures { result ≡ end_of report }
 {
-    let stage = report.stage;
-    match stage {
+    match report.stage {
         Stage::Ticks(n) => {
             let ran = simulation::run(report.simulation, n);
-            let last = ran.simulation;
             Report {
                 stage: Stage::Stop(ran.number),
-                simulation: last,
+                simulation: ran.simulation,
             }
         }
         _ => report,
@@ -219,19 +188,16 @@ fn without_records(report: Report) -> Report
 }
 
 // All that is printed for a text, put into a buffer: the position after it, or too little room.
-pub fn print_run(text: &[u8], out: &mut [u8]) -> Put
+pub fn print_run(text: &[u8], out: &mut [u8]) -> Option<usize>
     ensures { ForText text.now (λ d. AllPut (report_of d) out.old result out.new) }
 {
-    let report = report_of(text);
-    put_all(out, report)
+    put_all(out, report_of(text))
 }
 
 // The last lines that are printed for a text, put into a buffer: the line of a refusal, or the stop line
 // and the flows of its run.
-pub fn print_flows(text: &[u8], out: &mut [u8]) -> Put
+pub fn print_flows(text: &[u8], out: &mut [u8]) -> Option<usize>
     ensures { ForText text.now (λ d. AllPut (end_of (report_of d)) out.old result out.new) }
 {
-    let report = report_of(text);
-    let last = without_records(report);
-    put_all(out, last)
+    put_all(out, without_records(report_of(text)))
 }

@@ -1,4 +1,5 @@
 -- The answer of a run as a number, that a run's count is not 0, and how much room is enough. Assumes nothing.
+use Rattle.std.proofs.Common.{Option, Some, None}
 use Prim.Native.Nat.{ℕ, zero, suc, ◌+◌, ◌*◌, ◌≤◌, ◌<◌}
 use mathlib.Core.Bool.{Bool, true, false, cond, true≢false}
 use mathlib.Core.List.{List, [], ◌∷◌, ◌++◌}
@@ -14,8 +15,6 @@ use Rattle.remy.specs.Run.{run_of}
 use Rattle.remy.proofs.Steps.{cond_elim}
 use Rattle.description.specs.declared.Description.{Description}
 use Rattle.description.specs.Text.{Written, InWidth, ReadAs, given, malformed, description_of, answer_of}
-use Rattle.printer.specs.declared.Put.{Put}
-use Rattle.printer.specs.declared.Put.TheVariants as Put
 use Rattle.printer.specs.Printing.{refused_text, record_text, stop_text, written}
 use Rattle.report.specs.declared.run.Stage.{Stage}
 use Rattle.report.specs.declared.run.Stage.TheVariants as Stage
@@ -30,12 +29,12 @@ use Rattle.sweep.specs.Sweep.{count_of, put_count, CountPut, Enough, enough_for,
 
 -- ---- the answer
 
-number_cond : (b : Bool) (at : ℕ) → count_of (cond b (Put.At at) Put.Full) ≡ cond b at 0
+number_cond : (b : Bool) (at : ℕ) → count_of (cond b (Some at) None) ≡ cond b at 0
 number_cond true at = refl
 number_cond false at = refl
 
 -- what is said of a report that was all put or too long, said of the answer's number
-count_put : (report : Report) (out : List ℕ) (x : Put) (after : List ℕ) (n : ℕ) → n ≡ count_of x → AllPut report out x after → CountPut report out n after
+count_put : (report : Report) (out : List ℕ) (x : Option ℕ) (after : List ℕ) (n : ℕ) → n ≡ count_of x → AllPut report out x after → CountPut report out n after
 count_put report out x after n e w = record {
   answer = let p = puts (left_of report) out 0 in e ∙ ap count_of w.answer ∙ number_cond (none_left p.rest) p.at;
   bytes = w.bytes;
@@ -124,7 +123,7 @@ above_0 text n P t one other = by (ltb 0 n) refl
         let none : 0 < n → ⊥ = λ h. true≢false (sym (lt-ltb 0 n h) ∙ e) in
         absurd (none (other (t.other (λ w s i. none (one w i (t.given w s i))))))
 
-module _ (text out : List ℕ) (x : Put) (after : List ℕ) (n : ℕ) (e : n ≡ count_of x) where
+module _ (text out : List ℕ) (x : Option ℕ) (after : List ℕ) (n : ℕ) (e : n ≡ count_of x) where
   pub print_counted : ForText text (λ d. AllPut (report_of d) out x after) → ForText text (λ d. CountPut (report_of d) out n after × Enough (enough_for d) out n) × Enough enough_for_each out n
   print_counted t =
       let each : ForText text (λ d. CountPut (report_of d) out n after × Enough (enough_for d) out n) =

@@ -1,16 +1,14 @@
 -- The answer of a run as a number. Definitions only.
-use Rattle.std.specs.Prelude.{ℕ, ◌+◌, ◌*◌, ◌≤◌, ◌<◌, cond, List, length}
+use Rattle.std.specs.Prelude.{ℕ, ◌+◌, ◌*◌, ◌≤◌, ◌<◌, cond, List, length, Option, Some, None}
 use Rattle.description.specs.Text.{ReadAs, given, malformed}
-use Rattle.printer.specs.declared.Put.{Put}
-use Rattle.printer.specs.declared.Put.TheVariants as Put
 use Rattle.report.specs.declared.run.Report.{Report}
 use Rattle.report.specs.Report.{left_of}
 use Rattle.filling.specs.Filling.{Puts, none_left, PutBy}
 
 -- an answer as a number
-abbrev pub count_of : Put → ℕ
-count_of (Put.At n) = n
-count_of Put.Full = 0
+abbrev pub count_of : Option ℕ → ℕ
+count_of (Some n) = n
+count_of None = 0
 
 -- the count of the bytes put, or 0 where lines are left
 abbrev pub put_count : Puts → ℕ

@@ -7,16 +7,12 @@ ghost use Rattle.report.specs.Report.{ForText, report_of};
 ghost use Rattle.filling.specs.Filling.{end_of};
 ghost use Rattle.sweep.specs.Sweep.{count_of, CountPut, Enough, enough_for, enough_for_each, enough_for_flows};
 
-use printer::Put;
 
 // The position after all lines, as their count, or 0 where there was too little room.
-fn counted(put: Put) -> usize
+fn counted(put: Option<usize>) -> usize
     ensures { result ≡ count_of put }
 {
-    match put {
-        Put::At(n) => n,
-        Put::Full => 0,
-    }
+    put.unwrap_or(0)
 }
 
 // All that is printed for a text, put into out: the count of its bytes, or 0 where out is too small.

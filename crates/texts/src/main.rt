@@ -6,7 +6,6 @@
 
 ghost use Rattle.std.specs.Prelude.{◌≤◌};
 
-use printer::Put;
 use script::input::read_full;
 use std::io;
 
@@ -62,12 +61,12 @@ fn digit(b: u8) -> usize
 fn answer(rt: &impl Print, text: &[u8]) -> io::Result<()> {
     let mut out = [0u8; 65536];
     match filling::print_run(text, &mut out) {
-        Put::At(at) => {
+        Some(at) => {
             let n = counted(at);
             rt.write_all(&out[..n])?;
             println!(rt)
         }
-        Put::Full => println!(rt; "too long\n"),
+        None => println!(rt; "too long\n"),
     }
 }
 

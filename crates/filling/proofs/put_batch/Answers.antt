@@ -27,16 +27,16 @@ pub loop-i-preserved : goal.loop-i-preserved
 loop-i-preserved c =
     let w = c.record_bytes in
     let l = c.loop-i in
-    (λ r after v. l.invariant.0 r after (note_goes c.args.done c.args.records l.i (few (goal.at.loop-i-preserved c).Start) _ _ _ _ _ w.ensures c.loop-i-test.true _ c.in-At.is r after v), omega (arith, c.loop-i-test.true), w.auto.out ∙ l.invariant.2)
+    (λ r after v. l.invariant.0 r after (note_goes c.args.done c.args.records l.i (few (goal.at.loop-i-preserved c).Start) _ _ _ _ _ w.ensures c.loop-i-test.true _ c.in-Some.is r after v), omega (arith, c.loop-i-test.true), w.auto.out ∙ l.invariant.2)
 
-pub shape_of-out-in-Full : goal.shape_of-out-in-Full
-shape_of-out-in-Full c = c.record_bytes.auto.out ∙ c.loop-i.invariant.2
+pub shape_of-out-in-None : goal.shape_of-out-in-None
+shape_of-out-in-None c = c.record_bytes.auto.out ∙ c.loop-i.invariant.2
 
-pub returns-in-Full : goal.returns-in-Full
-returns-in-Full c =
+pub returns-in-None : goal.returns-in-None
+returns-in-None c =
     let w = c.record_bytes in
     let l = c.loop-i in
-    l.invariant.0 _ _ (note_full c.args.done c.args.records l.i (few (goal.at.returns-in-Full c).Start) _ _ _ _ _ w.ensures c.loop-i-test.true c.in-Full.is)
+    l.invariant.0 _ _ (note_full c.args.done c.args.records l.i (few (goal.at.returns-in-None c).Start) _ _ _ _ _ w.ensures c.loop-i-test.true c.in-None.is)
 
 pub shape_of-out : goal.shape_of-out
 shape_of-out c = c.loop-i.invariant.2

@@ -37,16 +37,16 @@ pub loop-i-preserved : goal.loop-i-preserved
 loop-i-preserved c =
     let w = c.flow_bytes in
     let l = c.loop-i in
-    (λ r after v. l.invariant.0 r after (flow_goes _ l.i _ _ _ c.time-clock.ensures _ _ w.ensures (below (goal.at.loop-i-preserved c).In-loop-i) _ c.in-At.is r after v), w.auto.out ∙ l.invariant.1)
+    (λ r after v. l.invariant.0 r after (flow_goes _ l.i _ _ _ c.time-clock.ensures _ _ w.ensures (below (goal.at.loop-i-preserved c).In-loop-i) _ c.in-Some.is r after v), w.auto.out ∙ l.invariant.1)
 
-pub shape_of-out-in-Full : goal.shape_of-out-in-Full
-shape_of-out-in-Full c = c.flow_bytes.auto.out ∙ c.loop-i.invariant.1
+pub shape_of-out-in-None : goal.shape_of-out-in-None
+shape_of-out-in-None c = c.flow_bytes.auto.out ∙ c.loop-i.invariant.1
 
-pub returns-in-Full : goal.returns-in-Full
-returns-in-Full c =
+pub returns-in-None : goal.returns-in-None
+returns-in-None c =
     let w = c.flow_bytes in
     let l = c.loop-i in
-    rw c.answer.ensures (l.invariant.0 _ _ (flow-full _ l.i _ _ _ c.time-clock.ensures _ _ w.ensures (below (goal.at.returns-in-Full c).In-loop-i) c.in-Full.is))
+    rw c.answer.ensures (l.invariant.0 _ _ (flow-full _ l.i _ _ _ c.time-clock.ensures _ _ w.ensures (below (goal.at.returns-in-None c).In-loop-i) c.in-None.is))
 
 pub shape_of-out : goal.shape_of-out
 shape_of-out c = c.loop-i.invariant.1
