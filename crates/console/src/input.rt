@@ -24,5 +24,8 @@ pub(crate) fn fill(from: &mut Stdin, buffer: &mut [u8]) -> usize
 fn read_some(from: &mut Stdin, part: &mut [u8]) -> usize
     ensures { IsPrefixLen result part.new }
 {
-    from.read(part).unwrap_or(0)
+    match from.read(part) {
+        Ok(got) => got,
+        Err(_) => 0,
+    }
 }
