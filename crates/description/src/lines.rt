@@ -111,6 +111,7 @@ pub(crate) fn distribution_value(text: &[u8], at: usize) -> Option<(Distribution
     ensures { Reads distribution_value text.now at (told distribution_case result) }
 {
     let (first, next) = word(text, at)?;
+    // No `match`: a proof knows its arm by the constant's digits, and an `if` by the constant's name.
     if first == ALWAYS {
         let (v, next) = ended(text, next, Kind::Double, b'\n')?;
         return Some((Distribution::Always(v), next));
