@@ -4,10 +4,7 @@ use native.Mathlib.Numerals.{add-one}
 use native.Mathlib.Omega.{arith}
 use Rattle.script.specs.Script.{value_of, number_at}
 use Rattle.script.proofs.Digits.{digit_more, digit_fits}
-use Rattle.script.proofs.number.Goals as goal
-
-pub field-from-requires : goal.field-from-requires
-field-from-requires c = tt
+use Rattle.script.proofs.Line.number.Goals as goal
 
 pub loop-i-init : goal.loop-i-init
 unfolding value_of
@@ -16,23 +13,8 @@ loop-i-init c = (omega arith, refl, omega arith)
 pub overflow_mul-n : goal.overflow_mul-n
 overflow_mul-n c = record { fits = omega (arith, digit_fits c.loop-i.n 0 c.loop-i.i c.loop-i.invariant.2 (omega arith) (omega arith)) }
 
-pub overflow_add-from : goal.overflow_add-from
-overflow_add-from c = omega (arith, c.field-from.ensures.1)
-
-pub byte_at-requires : goal.byte_at-requires
-byte_at-requires c = tt
-
-pub digit-requires : goal.digit-requires
-digit-requires c = tt
-
 pub overflow_add-n : goal.overflow_add-n
 overflow_add-n c = record { fits = digit_fits _ _ _ c.loop-i.invariant.2 c.digit.ensures.1 (omega arith) }
-
-pub overflow_step-i : goal.overflow_step-i
-overflow_step-i c = omega arith
-
-pub loop-i-smaller : goal.loop-i-smaller
-loop-i-smaller c = omega arith
 
 pub loop-i-preserved : goal.loop-i-preserved
 unfolding value_of
