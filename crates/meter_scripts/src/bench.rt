@@ -1,5 +1,5 @@
 // What the commands work on.
-ghost use Rattle.std.specs.Prelude.{◌≡◌, ◌≤◌, take, OnSome, MatchOption};
+ghost use Rattle.std.specs.Prelude.{◌≡◌, take, IfSome};
 ghost use Rattle.flows.specs.Average.{average_of, told_mean};
 
 use crate::answer::{FlowAnswer, MeterAnswer};
@@ -95,12 +95,16 @@ impl Bench {
 
     fn mean(&self, rt: &impl Print) -> io::Result<()> {
         let by_value = FlowAnswer::from(self.sum.mean());
-        let lent = match self.list.get(..self.count) {
-            Some(flows) => FlowAnswer::from(average(flows)),
-            None => by_value,
-        };
+        let lent = self.average_first().map_or(by_value, FlowAnswer::from);
         println!(rt; "M {lent}")?;
         compared(rt, lent == by_value)
+    }
+
+    // The mean of the list, which is lent, where it has at most 64 flows.
+    fn average_first(&self) -> Option<Mean>
+        ensures { IfSome result (λ mean. told_mean mean ≡ average_of (take self.now.count self.now.list)) }
+    {
+        Some(average(self.list.get(..self.count)?))
     }
 }
 

@@ -12,3 +12,14 @@ impl fmt::Display for Double {
         write!(f, "{bits:016x}")
     }
 }
+
+// A number, by its 16 digits.
+#[derive(Clone, Copy)]
+pub struct Hex(pub u64);
+
+impl fmt::Display for Hex {
+    fn fmt<W: fmt::Write>(&self, f: &mut fmt::Formatter<W>) -> fmt::Result {
+        let n = self.0;
+        write!(f, "{n:016x}")
+    }
+}
