@@ -10,11 +10,11 @@ ghost use Rattle.reading.specs.Flow.{told_flow, flow_of};
 
 use draws::ContinuousDistribution;
 use flows::Rtt;
-use link::{LineValues};
+use link::{Limit, LineValues};
 use meters::FlowRead;
 use quantities::float::to_bits;
 use reading::SenderFlow;
-use remy::{RemyNetwork};
+use remy::{RemyNetwork, ReturnLine};
 use sender::Policy;
 use std::io;
 
@@ -32,13 +32,12 @@ fn network() -> RemyNetwork {
         delay: 1.0,
         rate: 8.0,
         loss: 0.0,
-        limit: Some(8),
+        limit: Limit::Bits(8),
     };
-    let bits = [8; 16];
     RemyNetwork {
         line,
-        back: None,
-        bits,
+        back: ReturnLine::None,
+        bits: [8; 16],
         senders: 1,
         on: ContinuousDistribution::Always(100.0),
         off: ContinuousDistribution::Always(1.0),
@@ -55,32 +54,23 @@ fn flow(network: RemyNetwork, seed: u64) -> SenderFlow
     ensures { told_flow result ≡ flow_of (run_of 7 (build_of network seed).simulation).simulation 0 }
 {
     let built = builder::build(network, seed);
-    let start = built.simulation;
-    let ticked = simulation::tick(start);
-    let next = ticked.simulation;
-    let ran = simulation::run(next, 6);
-    let last = ran.simulation;
-    reading::average_properties(last, 0)
+    let ticked = simulation::tick(built.simulation);
+    let ran = simulation::run(ticked.simulation, 6);
+    reading::average_properties(ran.simulation, 0)
 }
 
-// The rate and the round-trip time, where there are any: 4 bit/s and 1 s here.
+// The rate and the round-trip time, where there are any: 4 bit/s and 1 s here. A double is printed by its
+// 64 bits, as 16 hexadecimal digits.
 fn print(rt: &impl Print, read: FlowRead) -> io::Result<()> {
     match read {
-        FlowRead::Properties(f) => {
-            double(rt, "rate=", f.throughput.0)?;
-            let rtt = f.rtt;
-            match rtt {
-                Ok(t) => double(rt, "rtt=", t.0),
-                Err(NoPacketsAcked) => println!(rt; "no packet counted"),
+        FlowRead::Properties(flow) => {
+            println!(rt; "rate={:016x}", to_bits(flow.throughput.0))?;
+            match flow.rtt {
+                Rtt::Known(span) => println!(rt; "rtt={:016x}", to_bits(span.0)),
+                Rtt::NoPacketsAcked => println!(rt; "no packet counted"),
             }
         }
         FlowRead::NeverActive => println!(rt; "never on"),
         FlowRead::Refused => println!(rt; "refused"),
     }
-}
-
-// A double is printed by its 64 bits, as 16 hexadecimal digits.
-fn double(rt: &impl Print, key: &str, x: f64) -> io::Result<()> {
-    let bits = to_bits(x);
-    println!(rt; "{key}{bits:016x}")
 }

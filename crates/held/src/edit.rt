@@ -1,222 +1,164 @@
 // A simulation with one of its parts anew, from the fields of a line. An index out of range changes
 // nothing.
-ghost use Rattle.std.specs.Prelude.{◌<◌, ◌≤◌};
+ghost use Rattle.std.specs.Prelude.{◌<◌};
 
-use crate::print::slot;
-use crate::read::{double, moment, narrow, network_at, size, time_if_any};
+use crate::options::{of_next, option_time};
+use crate::read::{network, time_if_any};
 use draws::Rng;
-use link::{Line, Packet, Ring, Transit, Waiting};
+use link::{Packet, Ring, Transit, Waiting};
 use meters::AverageFlowMeter;
 use quantities::{Information, TimeSpan};
 use remy::{Head, Simulation};
-use script::{absent, number};
-use sender::{Enabled, LossySender, SenderState};
+use script::Line;
+use sender::{Enabled, SenderState};
 use toggler::{Queued, Toggler};
 
-// The simulation with the part of a letter anew.
-pub(crate) fn edited(letter: u8, text: &[u8], at: usize, st: Simulation) -> Simulation {
-    match letter {
-        b'V' => network(text, at, st),
-        b'C' => head(text, at, st),
-        b'L' => line(text, at, st, 0),
-        b'l' => line(text, at, st, 1),
-        b'W' => slots(text, at, st, 0, false),
-        b'w' => slots(text, at, st, 1, false),
-        b'O' => slots(text, at, st, 0, true),
-        b'o' => slots(text, at, st, 1, true),
-        b'S' => sender(text, at, st),
-        b'G' => toggler(text, at, st),
-        b'M' => meter(text, at, st),
-        b'Q' => queue(text, at, st),
-        _ => st,
+// Puts the part of a line's letter anew.
+pub(crate) fn edit(line: Line, st: &mut Simulation) {
+    match line.kind() {
+        b'V' => st.network = network(line),
+        b'C' => st.head = head(line),
+        b'L' => put_line(line, &mut st.lines[0]),
+        b'l' => put_line(line, &mut st.lines[1]),
+        b'W' => fill(line, &mut st.waiting[..512], waiting(line)),
+        b'w' => fill(line, &mut st.waiting[512..], waiting(line)),
+        b'O' => fill(line, &mut st.on_line[..512], transit(line)),
+        b'o' => fill(line, &mut st.on_line[512..], transit(line)),
+        b'S' => {
+            if let Some(sender) = st.senders.get_mut(size(line, 0)) {
+                sender.packets_sent = line.narrow(1);
+                sender.state = state(line);
+            }
+        }
+        b'G' => put(line, &mut st.togglers, toggler(line)),
+        b'M' => put(line, &mut st.meters, meter(line)),
+        b'Q' => put(line, &mut st.queue, queued(line)),
+        _ => {}
     }
 }
 
-// V and the fields of a network
-fn network(text: &[u8], at: usize, st: Simulation) -> Simulation {
-    let mut out = st;
-    let network = network_at(text, at);
-    out.network = network;
-    out
+// The element of field 0 anew.
+fn put<T: Copy>(line: Line, all: &mut [T], element: T) {
+    if let Some(place) = all.get_mut(size(line, 0)) {
+        *place = element;
+    }
 }
 
 // C clock next
-fn head(text: &[u8], at: usize, st: Simulation) -> Simulation {
-    let mut out = st;
-    let next = next_at(text, at, 1);
-    let clock = moment(text, at, 0);
-    let head = Head { clock, next };
-    out.head = head;
-    out
-}
-
-fn next_at(text: &[u8], at: usize, k: usize) -> Next {
-    if absent(text, at, k) {
-        None
-    } else {
-        Some(size(text, at, k))
+fn head(line: Line) -> Head {
+    let next = line.field(1).map(|_| size(line, 1));
+    Head {
+        clock: line.time(0),
+        next: of_next(next),
     }
 }
 
 // L earliest-start bits, start and count of those that wait, start and count of those on the line;
 // l likewise, of the return line
-fn line(text: &[u8], at: usize, st: Simulation, l: usize) -> Simulation
-    requires { l < 2 }
-{
-    let mut out = st;
-    let old = out.lines[l];
-    let rng = old.rng;
-    let waiting = Ring {
-        start: size(text, at, 2),
-        count: size(text, at, 3),
-    };
-    let on_line = Ring {
-        start: size(text, at, 4),
-        count: size(text, at, 5),
-    };
-    let line = Line {
-        earliest_transmit: moment(text, at, 0),
-        buffer_contains: Information(number(text, at, 1)),
-        waiting,
-        on_line,
-        rng,
-    };
-    out.lines[l] = line;
-    out
+fn put_line(line: Line, out: &mut link::Line) {
+    out.earliest_transmit = line.time(0);
+    out.buffer_contains = Information(line.number(1));
+    out.waiting = ring(line, 2);
+    out.on_line = ring(line, 4);
 }
 
-fn packet_at(text: &[u8], at: usize) -> Packet {
-    Packet {
-        sender: narrow(text, at, 2),
-        seq: narrow(text, at, 3),
-        sent_time: moment(text, at, 4),
-    }
-}
-
-fn at_most_512(n: usize) -> usize
-    ensures { result ≤ 512 }
+fn ring(line: Line, k: usize) -> Ring
+    requires { k < 32 }
 {
-    if n < 512 {
-        return n;
+    Ring {
+        start: size(line, k),
+        count: size(line, k + 1),
     }
-    512
 }
 
 // O place count sender sequence sent-time due: so many places of those on the line
 // W place count sender sequence sent-time bits: so many places of those that wait
 // o and w likewise, of the return line
-fn slots(text: &[u8], at: usize, st: Simulation, l: usize, on_line: bool) -> Simulation
-    requires { l < 2 }
-{
-    let mut out = st;
-    let start = size(text, at, 0);
-    let n = at_most_512(size(text, at, 1));
-    let packet = packet_at(text, at);
-    let due = moment(text, at, 5);
-    let bits = Information(number(text, at, 5));
-    let x = Transit { packet, due };
-    let w = Waiting { packet, bits };
-    let mut k: usize = 0;
-    while k < n {
-        out = with_slot(out, slot(l, start, k), x, w, on_line);
-        k += 1;
+fn fill<T: Copy>(line: Line, ring: &mut [T], element: T) {
+    let start = size(line, 0);
+    for k in 0..size(line, 1).min(512) {
+        if let Some(place) = ring.get_mut(slot(start, k)) {
+            *place = element;
+        }
     }
-    out
 }
 
-fn with_slot(st: Simulation, i: usize, x: Transit, w: Waiting, on_line: bool) -> Simulation
-    requires { i < 1024 }
-{
-    let mut out = st;
-    if on_line {
-        out.on_line[i] = x;
-        return out;
+// The slot of the place k after a start in a ring.
+pub(crate) fn slot(start: usize, k: usize) -> usize {
+    if start < 512 && k < 512 {
+        (start + k) % 512
+    } else {
+        0
     }
-    out.waiting[i] = w;
-    out
+}
+
+fn waiting(line: Line) -> Waiting {
+    Waiting {
+        packet: packet(line),
+        bits: Information(line.number(5)),
+    }
+}
+
+fn transit(line: Line) -> Transit {
+    Transit {
+        packet: packet(line),
+        due: line.time(5),
+    }
+}
+
+fn packet(line: Line) -> Packet {
+    Packet {
+        sender: line.narrow(2),
+        seq: line.narrow(3),
+        sent_time: line.time(4),
+    }
 }
 
 // S i sent on started greatest-ack window timer
-fn sender(text: &[u8], at: usize, st: Simulation) -> Simulation {
-    let mut out = st;
-    let i = size(text, at, 0);
-    if i < 16 {
-        let old = out.senders[i];
-        let rng = old.rng;
-        let state = state_at(text, at);
-        let sender = LossySender {
-            packets_sent: narrow(text, at, 1),
-            state,
-            rng,
-        };
-        out.senders[i] = sender;
-    }
-    out
-}
-
-fn state_at(text: &[u8], at: usize) -> SenderState {
-    if number(text, at, 2) == 0 {
+fn state(line: Line) -> SenderState {
+    if line.number(2) == 0 {
         return SenderState::WaitingForEnable;
     }
-    let timer = time_if_any(text, at, 6);
     SenderState::Enabled(Enabled {
-        started: moment(text, at, 3),
-        greatest_ack: narrow(text, at, 4),
-        cwnd: narrow(text, at, 5),
-        timer,
+        started: line.time(3),
+        greatest_ack: line.narrow(4),
+        cwnd: line.narrow(5),
+        timer: option_time(time_if_any(line, 6)),
     })
 }
 
 // G i on next-toggle, and the generator's four words, of which four zeros are replaced
-fn toggler(text: &[u8], at: usize, st: Simulation) -> Simulation {
-    let mut out = st;
-    let i = size(text, at, 0);
-    if i < 16 {
-        let toggler = Toggler {
-            enabled: number(text, at, 1) != 0,
-            next_toggle: moment(text, at, 2),
-            rng: words_at(text, at),
-        };
-        out.togglers[i] = toggler;
+fn toggler(line: Line) -> Toggler {
+    Toggler {
+        enabled: line.number(1) != 0,
+        next_toggle: line.time(2),
+        rng: Rng::from_words(
+            line.number(3),
+            line.number(4),
+            line.number(5),
+            line.number(6),
+        ),
     }
-    out
-}
-
-fn words_at(text: &[u8], at: usize) -> Rng {
-    Rng::from_words(
-        number(text, at, 3),
-        number(text, at, 4),
-        number(text, at, 5),
-        number(text, at, 6),
-    )
 }
 
 // M i total-time start bits records rtt-sum
-fn meter(text: &[u8], at: usize, st: Simulation) -> Simulation {
-    let mut out = st;
-    let i = size(text, at, 0);
-    if i < 16 {
-        let current_start = time_if_any(text, at, 2);
-        let meter = AverageFlowMeter {
-            total_time: TimeSpan(double(text, at, 1)),
-            current_start,
-            total: Information(number(text, at, 3)),
-            records: narrow(text, at, 4),
-            rtt_sum: TimeSpan(double(text, at, 5)),
-        };
-        out.meters[i] = meter;
+fn meter(line: Line) -> AverageFlowMeter {
+    AverageFlowMeter {
+        total_time: TimeSpan(line.double(1)),
+        current_start: option_time(time_if_any(line, 2)),
+        total: Information(line.number(3)),
+        records: line.narrow(4),
+        rtt_sum: TimeSpan(line.double(5)),
     }
-    out
 }
 
 // Q place time
-fn queue(text: &[u8], at: usize, st: Simulation) -> Simulation {
-    let mut out = st;
-    let k = size(text, at, 0);
-    if k < 35 {
-        let time = time_if_any(text, at, 1);
-        let place = Queued { time };
-        out.queue[k] = place;
+fn queued(line: Line) -> Queued {
+    Queued {
+        time: option_time(time_if_any(line, 1)),
     }
-    out
+}
+
+fn size(line: Line, k: usize) -> usize {
+    line.narrow(k) as usize
 }

@@ -1,96 +1,77 @@
-// Where text goes: it is printed, or folded into a digest (FNV-1a of 64 bits).
-ghost use Rattle.std.specs.Prelude.{◌<◌};
+// Where the lines of a network go: they are printed, or folded into a digest.
+use crate::form::Form;
+use remy::Simulation;
+use std::fmt;
+use std::fmt::Write;
+use std::io;
 
-use itoa::Buffer;
-use quantities::float::to_bits;
-use std::io::{Print, Stdout};
+pub(crate) trait Sink {
+    fn line<D: fmt::Display + Drop>(&mut self, line: D) -> io::Result<()>;
 
-// Where it is printed, if anywhere, and the digest of what is folded.
-#[derive(Clone, Copy)]
-pub(crate) struct Sink {
-    pub shown: Option<Stdout>,
-    pub digest: u64,
+    // The line of a held state.
+    fn state(&mut self, st: &Simulation) -> io::Result<()>;
 }
 
 // Standard output.
-pub(crate) fn printed(to: Stdout) -> Sink {
-    Sink {
-        shown: Some(to),
-        digest: 0,
+#[derive(Clone, Copy)]
+pub(crate) struct Shown<P>(pub P);
+
+impl<P: Print> Sink for Shown<P> {
+    fn line<D: fmt::Display + Drop>(&mut self, line: D) -> io::Result<()> {
+        self.0.println(line)
+    }
+
+    fn state(&mut self, st: &Simulation) -> io::Result<()> {
+        self.0.println(Form(st))
     }
 }
 
-// A digest of nothing yet.
-pub(crate) fn folded() -> Sink {
-    Sink {
-        shown: None,
-        digest: 0xcbf2_9ce4_8422_2325,
+// The digest of what was written (FNV-1a of 64 bits).
+#[derive(Clone, Copy)]
+pub(crate) struct Digest(pub u64);
+
+impl Digest {
+    // Of nothing yet.
+    pub(crate) fn new() -> Self {
+        Digest(0xcbf2_9ce4_8422_2325)
+    }
+
+    pub(crate) fn of<D: fmt::Display + Drop>(value: D) -> Self {
+        let mut digest = Digest::new();
+        digest.add(value);
+        digest
+    }
+
+    // A digest takes each text, so that only a value that refuses to be written is cut short.
+    fn add<D: fmt::Display + Drop>(&mut self, value: D) {
+        let _ = self.write(value);
     }
 }
 
-pub(crate) fn put(out: Sink, text: &[u8]) -> Sink {
-    match out.shown {
-        Some(to) => {
-            show(to, text);
-            out
+impl fmt::Display for Digest {
+    fn fmt<W: fmt::Write>(&self, f: &mut fmt::Formatter<W>) -> fmt::Result {
+        write!(f, "digest {:016x}", self.0)
+    }
+}
+
+impl fmt::Write for Digest {
+    fn write_str(&mut self, text: &str) -> fmt::Result {
+        for byte in text.as_bytes() {
+            self.0 = (self.0 ^ *byte as u64).wrapping_mul(0x100_0000_01b3);
         }
-        None => Sink {
-            shown: None,
-            digest: fold(out.digest, text),
-        },
+        Ok(())
     }
 }
 
-// Where a write fails, the lines are incomplete.
-fn show(to: Stdout, text: &[u8]) {
-    let _ = to.write_all(text);
-}
-
-fn fold(digest: u64, text: &[u8]) -> u64 {
-    let mut h = digest;
-    let mut i: usize = 0;
-    while i < text.len() {
-        h = step(h, text[i]);
-        i += 1;
+// The line of a state is taken as `digest` and its own digest.
+impl Sink for Digest {
+    fn line<D: fmt::Display + Drop>(&mut self, line: D) -> io::Result<()> {
+        self.add(line);
+        self.add("\n");
+        Ok(())
     }
-    h
-}
 
-// The digest with a byte more: their exclusive or, times 2^40 + 435, in 64 bits.
-fn step(digest: u64, byte: u8) -> u64 {
-    let x = digest ^ byte as u64;
-    let low = x % 4294967296 * 435;
-    let high = x / 4294967296 % 4294967296 * 435 + low / 4294967296 + x % 16777216 * 256;
-    high % 4294967296 * 4294967296 + low % 4294967296
-}
-
-// A whole number in decimal.
-pub(crate) fn decimal(out: Sink, n: u64) -> Sink {
-    let mut text = Buffer::new();
-    put(out, text.format(n).as_bytes())
-}
-
-// A double, by the 16 digits of its bits.
-pub(crate) fn double(out: Sink, x: f64) -> Sink {
-    hex(out, to_bits(x))
-}
-
-pub(crate) fn hex(out: Sink, n: u64) -> Sink {
-    let mut text = [0u8; 16];
-    let mut rest = n;
-    for i in 0..16 {
-        text[15 - i] = digit(rest % 16);
-        rest /= 16;
-    }
-    put(out, &text)
-}
-
-fn digit(d: u64) -> u8
-    requires { d < 16 }
-{
-    if d < 10 {
-        b'0' + d as u8
-    } else {
-        b'a' - 10 + d as u8
+    fn state(&mut self, st: &Simulation) -> io::Result<()> {
+        self.line(Digest::of(Form(st)))
     }
 }

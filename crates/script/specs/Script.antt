@@ -1,6 +1,6 @@
 -- What stands at a place of a script. Definitions only.
 -- A text is the list of its bytes.
-use Rattle.std.specs.Prelude.{ℕ, zero, suc, ◌+◌, ◌*◌, ◌-◌, Bool, cond, List, [], ◌∷◌, ltb, eqb, drop, get_or}
+use Rattle.std.specs.Prelude.{ℕ, zero, suc, ◌+◌, ◌*◌, ◌-◌, Bool, cond, List, [], ◌∷◌, Option, Some, None, ltb, eqb, drop, get_or}
 
 -- the byte at a place, and 0 past the end
 abbrev pub byte_at : List ℕ → ℕ → ℕ
@@ -27,6 +27,10 @@ value_of text from (suc n) = value_of text from n * 16 + digit_of (byte_at text 
 -- a field as a number: its 16 digits
 unfoldable pub number_at : List ℕ → ℕ → ℕ → ℕ
 number_at text at k = value_of text (field_at at k) 16
+
+-- field k of a line, if it is there
+unfoldable pub field_of : List ℕ → ℕ → Option ℕ
+field_of line k = cond (absent_at line 0 k) None (Some (number_at line 0 k))
 
 -- the bytes of a text's first line, with its LF (10)
 unfoldable pub line_length : List ℕ → ℕ

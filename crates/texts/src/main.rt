@@ -1,21 +1,22 @@
 // Prints what the text program prints for each of a list of texts, and an empty line after each. The
 // file stdout beside src/ holds what the Rust oracle answers.
 //
-// A text in the list: its length as five decimal digits and LF, then its bytes.
+// A text in the list: its length as five decimal digits and LF, then its bytes. What is left of a list
+// that is cut short is passed over.
 #![tactic(auto)]
 
-ghost use Rattle.std.specs.Prelude.{◌≤◌};
-
+use printer::Put;
 use script::input::read_full;
 use std::io;
+use std::str;
+
+// The most texts of a list.
+const MOST: u32 = 100000;
 
 fn main(rt: HostRuntime) -> io::Result<()> {
-    let mut turns: u32 = 100000;
-    while turns > 0 {
-        if next_text(&rt)? {
-            turns -= 1;
-        } else {
-            turns = 0;
+    for _ in 0..MOST {
+        if !next_text(&rt)? {
+            break;
         }
     }
     Ok(())
@@ -24,12 +25,14 @@ fn main(rt: HostRuntime) -> io::Result<()> {
 // Answers one text, if one is left.
 fn next_text(rt: &HostRuntime) -> io::Result<bool> {
     let mut head = [0u8; 6];
-    let got = read_full(&mut rt.stdin(), &mut head)?;
-    if got < 6 {
+    if read_full(&mut rt.stdin(), &mut head)? < head.len() {
         return Ok(false);
     }
+    let Some(length) = length(&head) else {
+        return Ok(false);
+    };
     let mut text = [0u8; 65536];
-    let n = counted(number(head));
+    let n = text.len().min(length);
     read(rt, &mut text[..n])?;
     Ok(true)
 }
@@ -40,39 +43,18 @@ fn read(rt: &HostRuntime, text: &mut [u8]) -> io::Result<()> {
     answer(rt, &text[..got])
 }
 
-// The number that the first five digits are.
-fn number(head: [u8; 6]) -> usize {
-    10000 * digit(head[0])
-        + 1000 * digit(head[1])
-        + 100 * digit(head[2])
-        + 10 * digit(head[3])
-        + digit(head[4])
-}
-
-fn digit(b: u8) -> usize
-    ensures { result ≤ 9 }
-{
-    match b {
-        b'0'..=b'9' => (b - 48) as usize,
-        _ => 0,
-    }
+// The number that the five digits of a head are.
+fn length(head: &[u8; 6]) -> Option<usize> {
+    str::from_utf8(&head[..5]).ok()?.parse().ok()
 }
 
 fn answer(rt: &impl Print, text: &[u8]) -> io::Result<()> {
     let mut out = [0u8; 65536];
     match filling::print_run(text, &mut out) {
-        Some(at) => {
-            let n = counted(at);
-            rt.write_all(&out[..n])?;
+        Put::At(at) => {
+            rt.write_all(&out[..at.min(65536)])?;
             println!(rt)
         }
-        None => println!(rt; "too long\n"),
+        Put::Full => println!(rt; "too long\n"),
     }
-}
-
-// A position in the buffer, as a count of its bytes.
-fn counted(at: usize) -> usize
-    ensures { result ≤ 65536 }
-{
-    if at < 65536 { at } else { 65536 }
 }

@@ -3,32 +3,33 @@
 // After them come values that nobody published, under a heading that says so.
 #![tactic(auto)]
 
+use draws::distribution::sample;
 use draws::{ContinuousDistribution, PositiveSample, Rng, SplitMix64};
-use quantities::float::to_bits;
-use quantities::{Information, Time, TimeSpan};
+use quantities::{Information, InformationRate, Time, TimeSpan};
+use script::print::Double;
 use std::io;
 
 fn main(rt: HostRuntime) -> io::Result<()> {
     println!(rt;
         "# xoshiro256++ from the words 1, 2, 3, 4 (Blackman and Vigna's xoshiro256plusplus.c, as listed in the tests of the crate rand_xoshiro)"
     )?;
-    outputs(&rt, Generator::Xoshiro(Rng::from_words(1, 2, 3, 4)), 10)?;
+    outputs(&rt, Rng::from_words(1, 2, 3, 4), 10)?;
     println!(rt;
         "# SplitMix64 from 1477776061723855037 (Vigna's splitmix64.c, as listed in the tests of the crate rand_xoshiro)"
     )?;
     outputs(
         &rt,
-        Generator::SplitMix(SplitMix64 {
+        SplitMix64 {
             x: 1477776061723855037,
-        }),
+        },
         50,
     )?;
     println!(rt; "# SplitMix64 from 1234567 (Rosetta Code, Pseudo-random numbers/Splitmix64)")?;
-    outputs(&rt, Generator::SplitMix(SplitMix64 { x: 1234567 }), 5)?;
+    outputs(&rt, SplitMix64 { x: 1234567 }, 5)?;
     println!(rt;
         "# xoshiro256++ from the seed 0 (as listed in the tests of the crate rand, rngs/xoshiro256plusplus.rs)"
     )?;
-    outputs(&rt, Generator::Xoshiro(Rng::from_seed(0)), 10)?;
+    outputs(&rt, Rng::from_seed(0), 10)?;
     println!(rt;
         "# Not published: worked out from document 01's formulas by a second program (oracle/draws.py)"
     )?;
@@ -39,63 +40,43 @@ fn main(rt: HostRuntime) -> io::Result<()> {
     units(&rt)
 }
 
-// A generator of either kind.
-#[derive(Clone, Copy)]
-enum Generator {
-    Xoshiro(Rng),
-    SplitMix(SplitMix64),
+// What gives outputs one after the other.
+trait Generator: Copy {
+    // An output, and the generator after it.
+    fn draw(self) -> (u64, Self);
 }
 
-// An output, and the generator after it.
-#[derive(Clone, Copy)]
-struct Drawn {
-    value: u64,
-    after: Generator,
+impl Generator for Rng {
+    fn draw(self) -> (u64, Rng) {
+        let output = self.next();
+        (output.value, output.rng)
+    }
 }
 
-fn next_of(generator: Generator) -> Drawn {
-    match generator {
-        Generator::Xoshiro(rng) => {
-            let o = rng.next();
-            let next = o.rng;
-            let after = Generator::Xoshiro(next);
-            Drawn {
-                value: o.value,
-                after,
-            }
-        }
-        Generator::SplitMix(counter) => {
-            let m = counter.next();
-            let next = m.state;
-            let after = Generator::SplitMix(next);
-            Drawn {
-                value: m.output,
-                after,
-            }
-        }
+impl Generator for SplitMix64 {
+    fn draw(self) -> (u64, SplitMix64) {
+        let mixed = self.next();
+        (mixed.output, mixed.state)
     }
 }
 
 // The first n outputs, one to a line.
-fn outputs(rt: &impl Print, generator: Generator, n: u32) -> io::Result<()> {
-    let mut at = generator;
-    let mut i: u32 = 0;
-    while i < n {
-        let d = next_of(at);
-        decimal_line(rt, d.value)?;
-        at = d.after;
-        i += 1;
+fn outputs<G: Generator>(rt: &impl Print, start: G, n: u32) -> io::Result<()> {
+    let mut generator = start;
+    for _ in 0..n {
+        let (value, after) = generator.draw();
+        println!(rt; "{value}")?;
+        generator = after;
     }
     Ok(())
 }
 
 // A generator's words, on four lines.
 fn words_lines(rt: &impl Print, rng: Rng) -> io::Result<()> {
-    let w = rng.words();
-    decimal_line(rt, w[0])?;
-    decimal_line(rt, w[1])?;
-    decimal_line(rt, w[2])?;
-    decimal_line(rt, w[3])
+    for word in rng.words() {
+        println!(rt; "{word}")?;
+    }
+    Ok(())
 }
 
 // The first child of the seed 1, and its parent after it.
@@ -110,23 +91,26 @@ fn children(rt: &impl Print) -> io::Result<()> {
 // zero, which are taken.
 fn given(rt: &impl Print) -> io::Result<()> {
     println!(rt; "given four zero words, then one word that is not zero")?;
-    words_lines(rt, Rng::from_words(0, 0, 0, 0))?;
-    words_lines(rt, Rng::from_words(1, 0, 0, 0))?;
-    words_lines(rt, Rng::from_words(0, 1, 0, 0))?;
-    words_lines(rt, Rng::from_words(0, 0, 1, 0))?;
-    words_lines(rt, Rng::from_words(0, 0, 0, 1))?;
+    for [a, b, c, d] in [
+        [0, 0, 0, 0],
+        [1, 0, 0, 0],
+        [0, 1, 0, 0],
+        [0, 0, 1, 0],
+        [0, 0, 0, 1],
+    ] {
+        words_lines(rt, Rng::from_words(a, b, c, d))?;
+    }
     println!(rt; "outputs from four zero words")?;
-    outputs(rt, Generator::Xoshiro(Rng::from_words(0, 0, 0, 0)), 10)
+    outputs(rt, Rng::from_words(0, 0, 0, 0), 10)
 }
 
 // Samples at the outputs 0, 4095, 4096, 41943041 and 2^64 - 1.
 fn samples(rt: &impl Print) -> io::Result<()> {
     println!(rt; "samples")?;
-    double_line(rt, draws::distribution::sample(0))?;
-    double_line(rt, draws::distribution::sample(4095))?;
-    double_line(rt, draws::distribution::sample(4096))?;
-    double_line(rt, draws::distribution::sample(41943041))?;
-    double_line(rt, draws::distribution::sample(18446744073709551615))
+    for output in [0, 4095, 4096, 41943041, u64::MAX] {
+        println!(rt; "{}", Double(sample(output)))?;
+    }
+    Ok(())
 }
 
 fn draws(rt: &impl Print) -> io::Result<()> {
@@ -172,12 +156,11 @@ fn draws(rt: &impl Print) -> io::Result<()> {
 fn positive(rt: &impl Print, d: ContinuousDistribution, rng: Rng) -> io::Result<()> {
     match d.sample_positive(rng) {
         PositiveSample::Positive(value, after) => {
-            decimal_line(rt, 0)?;
-            double_line(rt, value)?;
+            println!(rt; "0\n{}", Double(value))?;
             words_lines(rt, after)
         }
         PositiveSample::Spent(after) => {
-            decimal_line(rt, 8)?;
+            println!(rt; "8")?;
             words_lines(rt, after)
         }
     }
@@ -187,30 +170,17 @@ fn units(rt: &impl Print) -> io::Result<()> {
     println!(rt;
         "Time::SIM_START, MAX, MIN; 11,200 bits at 3 bit/s; 2^53 + 1 bits at 1 bit/s; 8 bits over 0.1 s"
     )?;
-    double_line(rt, Time::SIM_START.0.0)?;
-    double_line(rt, Time::MAX.0.0)?;
-    double_line(rt, Time::MIN.0.0)?;
-    double_line(
-        rt,
-        Information(11200)
-            .div_rate(quantities::InformationRate(3.0))
-            .0,
-    )?;
-    double_line(
-        rt,
+    for value in [
+        Time::SIM_START.0.0,
+        Time::MAX.0.0,
+        Time::MIN.0.0,
+        Information(11200).div_rate(InformationRate(3.0)).0,
         Information(9007199254740993)
-            .div_rate(quantities::InformationRate(1.0))
+            .div_rate(InformationRate(1.0))
             .0,
-    )?;
-    double_line(rt, Information(8).div_span(TimeSpan(0.1)).0)
-}
-
-fn decimal_line(rt: &impl Print, n: u64) -> io::Result<()> {
-    println!(rt; "{n}")
-}
-
-// A double as the 16 digits of its bits.
-fn double_line(rt: &impl Print, x: f64) -> io::Result<()> {
-    let bits = to_bits(x);
-    println!(rt; "{bits:016x}")
+        Information(8).div_span(TimeSpan(0.1)).0,
+    ] {
+        println!(rt; "{}", Double(value))?;
+    }
+    Ok(())
 }

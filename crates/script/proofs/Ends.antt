@@ -1,0 +1,27 @@
+-- The bytes of a first line, by the place of its LF; they lie in the text. Assumes nothing.
+use Prim.Native.Nat.{ℕ, suc, ◌+◌, ◌≤◌, ◌<◌}
+use mathlib.Core.Bool.{Bool, true, false}
+use mathlib.Core.List.{List, [], ◌∷◌}
+use mathlib.Core.Path.{◌≡◌, refl}
+use native.Mathlib.Omega.{arith}
+use lib.Dec.{eqb}
+use lib.ListN.{length}
+use Rattle.std.proofs.lemmas.Grind.{common_steps}
+use Rattle.std.specs.Prelude.{cond, ◌==◌, nat_lt}
+use Rattle.std.specs.List.{position_or_len}
+use Rattle.script.specs.Script.{line_length}
+
+pub length_by_place : (text : List ℕ) → line_length text ≡ cond (nat_lt (position_or_len (λ b. b == 10) text) (length text)) (position_or_len (λ b. b == 10) text + 1) (length text)
+unfolding line_length
+length_by_place [] = refl
+length_by_place (b ∷ rest) = grind (arith, common_steps, length_by_place rest)
+
+pub line_within : (text : List ℕ) → line_length text ≤ length text
+unfolding line_length
+line_within [] = omega arith
+line_within (b ∷ rest) = grind (arith, common_steps, line_within rest)
+
+pub line_some : (text : List ℕ) → 0 < length text → 0 < line_length text
+unfolding line_length
+line_some [] h = elim h [ ]
+line_some (b ∷ rest) h = grind (arith, common_steps)
