@@ -10,11 +10,11 @@ ghost use Rattle.reading.specs.Flow.{told_flow, flow_of};
 
 use draws::ContinuousDistribution;
 use flows::Rtt;
-use link::{Limit, LineValues};
+use link::{LineValues};
 use meters::FlowRead;
 use quantities::float::to_bits;
 use reading::SenderFlow;
-use remy::{RemyNetwork, ReturnLine};
+use remy::{RemyNetwork};
 use sender::Policy;
 use std::io;
 
@@ -32,11 +32,11 @@ fn network() -> RemyNetwork {
         delay: 1.0,
         rate: 8.0,
         loss: 0.0,
-        limit: Limit::Bits(8),
+        limit: Some(8),
     };
     RemyNetwork {
         line,
-        back: ReturnLine::None,
+        back: None,
         bits: [8; 16],
         senders: 1,
         on: ContinuousDistribution::Always(100.0),
@@ -66,8 +66,8 @@ fn print(rt: &impl Print, read: FlowRead) -> io::Result<()> {
         FlowRead::Properties(flow) => {
             println!(rt; "rate={:016x}", to_bits(flow.throughput.0))?;
             match flow.rtt {
-                Rtt::Known(span) => println!(rt; "rtt={:016x}", to_bits(span.0)),
-                Rtt::NoPacketsAcked => println!(rt; "no packet counted"),
+                Ok(span) => println!(rt; "rtt={:016x}", to_bits(span.0)),
+                Err(NoPacketsAcked) => println!(rt; "no packet counted"),
             }
         }
         FlowRead::NeverActive => println!(rt; "never on"),

@@ -1,78 +1,78 @@
 // The types of the simulator that are a value or nothing, as options and back.
-use link::{Limit, LineValues};
+use link::{LineValues};
 use meters::FlowRead;
-use flows::{FlowProperties, Rtt};
-use quantities::{OptionTime, Time, TimeSpan};
+use flows::{FlowProperties, NoPacketsAcked};
+use quantities::{Time, TimeSpan};
 use reading::SenderFlow;
-use remy::{Name, Next, ReturnLine};
+use remy::{};
 
-pub(crate) fn time(time: OptionTime) -> Option<Time> {
+pub(crate) fn time(time: Option<Time>) -> Option<Time> {
     match time {
-        OptionTime::None => None,
-        OptionTime::Some(t) => Some(t),
+        None => None,
+        Some(t) => Some(t),
     }
 }
 
-pub(crate) fn option_time(time: Option<Time>) -> OptionTime {
+pub(crate) fn option_time(time: Option<Time>) -> Option<Time> {
     match time {
-        None => OptionTime::None,
-        Some(t) => OptionTime::Some(t),
+        None => None,
+        Some(t) => Some(t),
     }
 }
 
-pub(crate) fn limit(limit: Limit) -> Option<u64> {
+pub(crate) fn limit(limit: Option<u64>) -> Option<u64> {
     match limit {
-        Limit::None => None,
-        Limit::Bits(n) => Some(n),
+        None => None,
+        Some(n) => Some(n),
     }
 }
 
 pub(crate) fn of_limit(limit: Option<u64>) -> Limit {
     match limit {
-        None => Limit::None,
-        Some(n) => Limit::Bits(n),
+        None => None,
+        Some(n) => Some(n),
     }
 }
 
-pub(crate) fn back(back: ReturnLine) -> Option<LineValues> {
+pub(crate) fn back(back: Option<LineValues>) -> Option<LineValues> {
     match back {
-        ReturnLine::None => None,
-        ReturnLine::Line(line) => Some(line),
+        None => None,
+        Some(line) => Some(line),
     }
 }
 
-pub(crate) fn of_back(back: Option<LineValues>) -> ReturnLine {
+pub(crate) fn of_back(back: Option<LineValues>) -> Option<LineValues> {
     match back {
-        None => ReturnLine::None,
-        Some(line) => ReturnLine::Line(line),
+        None => None,
+        Some(line) => Some(line),
     }
 }
 
-pub(crate) fn next(next: Next) -> Option<usize> {
+pub(crate) fn next(next: Option<usize>) -> Option<usize> {
     match next {
-        Next::None => None,
-        Next::Part(k) => Some(k),
+        None => None,
+        Some(k) => Some(k),
     }
 }
 
 pub(crate) fn of_next(next: Option<usize>) -> Next {
     match next {
-        None => Next::None,
-        Some(k) => Next::Part(k),
+        None => None,
+        Some(k) => Some(k),
     }
 }
 
-pub(crate) fn name(name: Name) -> Option<(u32, u32)> {
+pub(crate) fn name(name: Option<(u32, u32)>) -> Option<(u32, u32)> {
     match name {
-        Name::None => None,
-        Name::Packet(sender, seq) => Some((sender, seq)),
+        None => None,
+        Some((sender, seq)) => Some((sender, seq)),
     }
 }
 
-pub(crate) fn rtt(rtt: Rtt) -> Option<TimeSpan> {
+pub(crate) fn rtt(rtt: Result<TimeSpan, NoPacketsAcked>) -> Option<TimeSpan> {
     match rtt {
-        Rtt::NoPacketsAcked => None,
-        Rtt::Known(span) => Some(span),
+        Err(NoPacketsAcked) => None,
+        Ok(span) => Some(span),
     }
 }
 

@@ -1,5 +1,5 @@
 // The sum of the numbers of descriptions.
-use description::{Description, Distribution, Limit, Policy};
+use description::{Description, Distribution, Policy};
 
 // Each step can be undone (xorshift64), so that no number drops out of it.
 #[derive(Clone, Copy)]
@@ -28,10 +28,10 @@ impl Sum {
             .with(d.ticks as u64)
     }
 
-    fn limited(self, limit: Limit) -> Self {
+    fn limited(self, limit: Option<u64>) -> Self {
         match limit {
-            Limit::None => self.with(0),
-            Limit::Bits(bits) => self.with(1).with(bits),
+            None => self.with(0),
+            Some(bits) => self.with(1).with(bits),
         }
     }
 

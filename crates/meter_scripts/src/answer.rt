@@ -1,8 +1,7 @@
 // What is printed of a meter and of a flow: each number by its bits, so that two answers are equal where
 // they are printed alike.
-use flows::{FlowProperties, Mean, Rtt};
+use flows::{FlowProperties, Mean, NoPacketsAcked};
 use meters::{FlowRead, Metered};
-use quantities::OptionTime;
 use quantities::float::to_bits;
 use std::fmt;
 
@@ -95,20 +94,20 @@ impl From<Mean> for FlowAnswer {
     }
 }
 
-impl From<OptionTime> for Field {
-    fn from(time: OptionTime) -> Self {
+impl From<Option<Time>> for Field {
+    fn from(time: Option<Time>) -> Self {
         Field(match time {
-            OptionTime::None => None,
-            OptionTime::Some(time) => Some(to_bits(time.0.0)),
+            None => None,
+            Some(time) => Some(to_bits(time.0.0)),
         })
     }
 }
 
 impl From<Rtt> for Field {
-    fn from(rtt: Rtt) -> Self {
+    fn from(rtt: Result<TimeSpan, NoPacketsAcked>) -> Self {
         Field(match rtt {
-            Rtt::NoPacketsAcked => None,
-            Rtt::Known(span) => Some(to_bits(span.0)),
+            Err(NoPacketsAcked) => None,
+            Ok(span) => Some(to_bits(span.0)),
         })
     }
 }

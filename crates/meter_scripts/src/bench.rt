@@ -4,7 +4,7 @@ ghost use Rattle.flows.specs.Average.{average_of, told_mean};
 
 use crate::answer::{FlowAnswer, MeterAnswer};
 use crate::command::Command;
-use flows::{FlowProperties, FlowSum, Mean, Rtt};
+use flows::{FlowProperties, FlowSum, Mean, NoPacketsAcked};
 use lent::{average, record_lending, switch_lending};
 use meters::{AverageFlowMeter, Metered};
 use quantities::InformationRate;
@@ -23,7 +23,7 @@ impl Bench {
     pub(crate) fn new() -> Self {
         let flow = FlowProperties {
             throughput: InformationRate(0.0),
-            rtt: Rtt::NoPacketsAcked,
+            rtt: Err(NoPacketsAcked),
         };
         Bench {
             meter: AverageFlowMeter::new_disabled(),

@@ -1,8 +1,8 @@
 // The commands of a script.
-use flows::{FlowProperties, Rtt};
+use flows::{FlowProperties, NoPacketsAcked};
 use meters::{AverageFlowMeter, Reception};
 use quantities::float::from_bits;
-use quantities::{Information, InformationRate, OptionTime, Time, TimeSpan};
+use quantities::{Information, InformationRate, Time, TimeSpan};
 use script::Line;
 
 #[derive(Clone, Copy)]
@@ -63,16 +63,16 @@ fn flow(line: Line) -> FlowProperties {
     }
 }
 
-fn time_if_any(line: Line, k: usize) -> OptionTime {
+fn time_if_any(line: Line, k: usize) -> Option<Time> {
     match line.field(k) {
-        None => OptionTime::None,
-        Some(bits) => OptionTime::Some(Time(TimeSpan(from_bits(bits)))),
+        None => None,
+        Some(bits) => Some(Time(TimeSpan(from_bits(bits)))),
     }
 }
 
-fn rtt(line: Line, k: usize) -> Rtt {
+fn rtt(line: Line, k: usize) -> Result<TimeSpan, NoPacketsAcked> {
     match line.field(k) {
-        None => Rtt::NoPacketsAcked,
-        Some(bits) => Rtt::Known(TimeSpan(from_bits(bits))),
+        None => Err(NoPacketsAcked),
+        Some(bits) => Ok(TimeSpan(from_bits(bits))),
     }
 }
