@@ -2,7 +2,6 @@
 // nothing.
 ghost use Rattle.std.specs.Prelude.{◌<◌};
 
-use crate::options::{of_next, option_time};
 use crate::read::{network, time_if_any};
 use draws::Rng;
 use link::{Packet, Ring, Transit, Waiting};
@@ -49,7 +48,7 @@ fn head(line: Line) -> Head {
     let next = line.field(1).map(|_| size(line, 1));
     Head {
         clock: line.time(0),
-        next: of_next(next),
+        next,
     }
 }
 
@@ -123,7 +122,7 @@ fn state(line: Line) -> SenderState {
         started: line.time(3),
         greatest_ack: line.narrow(4),
         cwnd: line.narrow(5),
-        timer: option_time(time_if_any(line, 6)),
+        timer: time_if_any(line, 6),
     })
 }
 
@@ -145,7 +144,7 @@ fn toggler(line: Line) -> Toggler {
 fn meter(line: Line) -> AverageFlowMeter {
     AverageFlowMeter {
         total_time: TimeSpan(line.double(1)),
-        current_start: option_time(time_if_any(line, 2)),
+        current_start: time_if_any(line, 2),
         total: Information(line.number(3)),
         records: line.narrow(4),
         rtt_sum: TimeSpan(line.double(5)),
@@ -155,7 +154,7 @@ fn meter(line: Line) -> AverageFlowMeter {
 // Q place time
 fn queued(line: Line) -> Queued {
     Queued {
-        time: option_time(time_if_any(line, 1)),
+        time: time_if_any(line, 1),
     }
 }
 

@@ -30,7 +30,6 @@ ghost use Rattle.std.specs.Prelude.{◌≡◌, length};
 mod bench;
 mod edit;
 mod form;
-mod options;
 mod read;
 mod sink;
 mod whole;

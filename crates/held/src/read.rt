@@ -1,7 +1,6 @@
 // What the fields of a line give: a field that is not there reads as 0.
 ghost use Rattle.std.specs.Prelude.{◌<◌};
 
-use crate::options::{of_back, of_limit};
 use draws::ContinuousDistribution;
 use link::LineValues;
 use quantities::float::from_bits;
@@ -22,7 +21,7 @@ pub(crate) fn network(line: Line) -> RemyNetwork {
     };
     RemyNetwork {
         line: values(line, 0),
-        back: of_back(back),
+        back,
         bits: array::from_fn(|i| line.number(4 + i)),
         senders: line.narrow(20),
         on: distribution(line, 21),
@@ -39,7 +38,7 @@ fn values(line: Line, k: usize) -> LineValues
         delay: line.double(k),
         rate: line.double(k + 1),
         loss: line.double(k + 2),
-        limit: of_limit(line.field(k + 3)),
+        limit: line.field(k + 3),
     }
 }
 

@@ -1,7 +1,6 @@
 // A digest of every field of a simulation, with both lines, every slot of their rings and every sender,
 // toggler, meter and place of the queue, whether in use or not: of the text that they are printed as.
 use crate::form::{Form, OrDash};
-use crate::options::{back, limit, of_back};
 use crate::sink::Digest;
 use draws::ContinuousDistribution;
 use link::{Line, LineValues, Ring};
@@ -32,7 +31,7 @@ impl fmt::Display for Whole<'_> {
 fn in_use(st: Simulation) -> Simulation {
     Simulation {
         network: RemyNetwork {
-            back: of_back(Some(st.network.line)),
+            back: Some(st.network.line),
             senders: 16,
             ..st.network
         },
@@ -63,7 +62,7 @@ impl fmt::Display for Form<Ring> {
 impl fmt::Display for Form<RemyNetwork> {
     fn fmt<W: fmt::Write>(&self, f: &mut fmt::Formatter<W>) -> fmt::Result {
         let n = self.0;
-        write!(f, "{}{}", Form(n.line), OrDash(back(n.back).map(Form)))?;
+        write!(f, "{}{}", Form(n.line), OrDash(n.back.map(Form)))?;
         for bits in n.bits {
             write!(f, "{bits}:")?;
         }
@@ -87,7 +86,7 @@ impl fmt::Display for Form<LineValues> {
             Double(line.delay),
             Double(line.rate),
             Double(line.loss),
-            OrDash(limit(line.limit).map(Hex))
+            OrDash(line.limit.map(Hex))
         )
     }
 }

@@ -1,8 +1,9 @@
 // What is printed of a meter and of a flow: each number by its bits, so that two answers are equal where
 // they are printed alike.
-use flows::{FlowProperties, Mean, NoPacketsAcked};
-use meters::{FlowRead, Metered};
+use flows::{FlowProperties, NoMean, NoPacketsAcked};
+use meters::{FlowReadError, Metered};
 use quantities::float::to_bits;
+use quantities::{Time, TimeSpan};
 use std::fmt;
 
 // The number, and the meter after the call.
@@ -75,39 +76,39 @@ impl From<FlowProperties> for FlowAnswer {
     }
 }
 
-impl From<FlowRead> for FlowAnswer {
-    fn from(read: FlowRead) -> Self {
-        match read {
-            FlowRead::Properties(flow) => flow.into(),
-            FlowRead::NeverActive => FlowAnswer::Refused(16),
-            FlowRead::Refused => FlowAnswer::Refused(18),
-        }
+impl From<FlowReadError> for FlowAnswer {
+    fn from(error: FlowReadError) -> Self {
+        FlowAnswer::Refused(match error {
+            FlowReadError::NeverActive => 16,
+            FlowReadError::Refused => 18,
+        })
     }
 }
 
-impl From<Mean> for FlowAnswer {
-    fn from(mean: Mean) -> Self {
-        match mean {
-            Mean::Average(flow) => flow.into(),
-            Mean::Refused => FlowAnswer::Refused(17),
+impl From<NoMean> for FlowAnswer {
+    fn from(_error: NoMean) -> Self {
+        FlowAnswer::Refused(17)
+    }
+}
+
+// What a read or a mean gives.
+impl<E: Into<FlowAnswer>> From<Result<FlowProperties, E>> for FlowAnswer {
+    fn from(answer: Result<FlowProperties, E>) -> Self {
+        match answer {
+            Ok(flow) => flow.into(),
+            Err(error) => error.into(),
         }
     }
 }
 
 impl From<Option<Time>> for Field {
     fn from(time: Option<Time>) -> Self {
-        Field(match time {
-            None => None,
-            Some(time) => Some(to_bits(time.0.0)),
-        })
+        Field(time.map(|t| to_bits(t.0.0)))
     }
 }
 
-impl From<Rtt> for Field {
+impl From<Result<TimeSpan, NoPacketsAcked>> for Field {
     fn from(rtt: Result<TimeSpan, NoPacketsAcked>) -> Self {
-        Field(match rtt {
-            Err(NoPacketsAcked) => None,
-            Ok(span) => Some(to_bits(span.0)),
-        })
+        Field(rtt.ok().map(|span| to_bits(span.0)))
     }
 }

@@ -4,7 +4,7 @@ ghost use Rattle.flows.specs.Average.{average_of, told_mean};
 
 use crate::answer::{FlowAnswer, MeterAnswer};
 use crate::command::Command;
-use flows::{FlowProperties, FlowSum, Mean, NoPacketsAcked};
+use flows::{FlowProperties, FlowSum, NoMean, NoPacketsAcked};
 use lent::{average, record_lending, switch_lending};
 use meters::{AverageFlowMeter, Metered};
 use quantities::InformationRate;
@@ -14,7 +14,7 @@ use std::io;
 #[derive(Clone, Copy)]
 pub(crate) struct Bench {
     meter: AverageFlowMeter,
-    sum: FlowSum,
+    sum: Result<FlowSum, NoMean>,
     list: [FlowProperties; 64],
     count: usize,
 }
@@ -27,7 +27,7 @@ impl Bench {
         };
         Bench {
             meter: AverageFlowMeter::new_disabled(),
-            sum: FlowSum::start(),
+            sum: Ok(FlowSum::start()),
             list: [flow; 64],
             count: 0,
         }
@@ -61,7 +61,7 @@ impl Bench {
             }
             Command::Mean => {
                 self.mean(rt)?;
-                self.sum = FlowSum::start();
+                self.sum = Ok(FlowSum::start());
                 self.count = 0;
                 Ok(())
             }
@@ -69,7 +69,7 @@ impl Bench {
     }
 
     fn add(&mut self, flow: FlowProperties) {
-        self.sum = self.sum.added(flow);
+        self.sum = self.sum.and_then(|sum| sum.added(flow));
         match self.list.get_mut(self.count) {
             Some(place) => {
                 *place = flow;
@@ -94,14 +94,14 @@ impl Bench {
     }
 
     fn mean(&self, rt: &impl Print) -> io::Result<()> {
-        let by_value = FlowAnswer::from(self.sum.mean());
+        let by_value = FlowAnswer::from(self.sum.and_then(FlowSum::mean));
         let lent = self.average_first().map_or(by_value, FlowAnswer::from);
         println!(rt; "M {lent}")?;
         compared(rt, lent == by_value)
     }
 
     // The mean of the list, which is lent, where it has at most 64 flows.
-    fn average_first(&self) -> Option<Mean>
+    fn average_first(&self) -> Option<Result<FlowProperties, NoMean>>
         ensures { IfSome result (λ mean. told_mean mean ≡ average_of (take self.now.count self.now.list)) }
     {
         Some(average(self.list.get(..self.count)?))

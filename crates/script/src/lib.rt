@@ -11,7 +11,7 @@ pub mod lines;
 pub mod print;
 
 use quantities::float::from_bits;
-use quantities::{OptionTime, Time, TimeSpan};
+use quantities::{Time, TimeSpan};
 
 // A line of a script, as the bytes that it has.
 #[derive(Clone, Copy)]
