@@ -35,6 +35,7 @@ fn first(number: u32, ticks: u32) -> Stage
 }
 
 // The report of a description.
+#[tactic(auto, unfolding(crate::specs::Report::begun_of))]
 fn begun(description: Description) -> Report
     ensures { result ≡ begun_of description }
 {

@@ -1,10 +1,10 @@
 -- The worked example, computed. Assumes nothing.
+use Rattle.std.proofs.Common.{Some}
 use mathlib.Core.List.{[], ◌∷◌}
 use mathlib.Core.Logic.{inl}
 use mathlib.Core.Path.{◌≡◌, refl, subst}
 use lib.Dec.{lit<, lit≤}
 use lib.Ieee.{to_bits}
-use Rattle.description.specs.declared.Limit.TheVariants.{Bits}
 use Rattle.description.specs.declared.Distribution.TheVariants.{Always}
 use Rattle.description.specs.declared.Policy.TheVariants.{Held}
 use Rattle.notation.specs.Notation.{digit_byte, digits_of, hex_of, decimal_within, decimal_of}
@@ -21,7 +21,7 @@ read =
       delay = 0x3ff0_0000_0000_0000;
       rate = 0x4020_0000_0000_0000;
       loss = 0;
-      limit = Bits 8;
+      limit = Some 8;
       bits = 8 ∷ [];
       senders = 1;
       on = Always 0x4059_0000_0000_0000;
