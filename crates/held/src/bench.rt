@@ -108,7 +108,10 @@ impl Bench {
 
     // How many ticks moved, the last number, and the clock.
     fn counted(&self, rt: &impl Print, word: &str, moved: u32, number: u32) -> io::Result<()> {
-        println!(rt; "{word} {moved} {number} {}", Form(reading::time(self.held)))
+        println!(rt;
+            "{word} {moved} {number} {}",
+            Form(reading::time(self.held))
+        )
     }
 }
 

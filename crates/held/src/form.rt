@@ -121,7 +121,12 @@ impl fmt::Display for Form<&Simulation> {
 impl fmt::Display for Form<Head> {
     fn fmt<W: fmt::Write>(&self, f: &mut fmt::Formatter<W>) -> fmt::Result {
         let head = self.0;
-        write!(f, "clock={} next={}", Form(head.clock), OrDash(next(head.next)))
+        write!(
+            f,
+            "clock={} next={}",
+            Form(head.clock),
+            OrDash(next(head.next))
+        )
     }
 }
 
@@ -231,7 +236,12 @@ impl fmt::Display for Form<Toggler> {
     fn fmt<W: fmt::Write>(&self, f: &mut fmt::Formatter<W>) -> fmt::Result {
         let toggler = self.0;
         let on = if toggler.enabled { "on" } else { "off" };
-        write!(f, "{on}:{}:{}", Form(toggler.next_toggle), Form(toggler.rng))
+        write!(
+            f,
+            "{on}:{}:{}",
+            Form(toggler.next_toggle),
+            Form(toggler.rng)
+        )
     }
 }
 
@@ -277,13 +287,11 @@ impl fmt::Display for Flow<'_> {
     fn fmt<W: fmt::Write>(&self, f: &mut fmt::Formatter<W>) -> fmt::Result {
         let Flow(st, i) = *self;
         write!(f, "flow={i}")?;
-        if let (Some(sender), Some(meter)) = (st.senders.get(i as usize), st.meters.get(i as usize))
-        {
-            write!(
-                f,
-                " sent={} counted={}",
-                sender.packets_sent, meter.records
-            )?;
+        if let (Some(sender), Some(meter)) = (
+            st.senders.get(i as usize),
+            st.meters.get(i as usize),
+        ) {
+            write!(f, " sent={} counted={}", sender.packets_sent, meter.records)?;
         }
         match read(reading::average_properties(*st, i)) {
             None => f.write_str(" -"),

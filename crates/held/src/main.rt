@@ -26,7 +26,6 @@
 
 ghost use Rattle.std.specs.Prelude.{◌≡◌, length};
 
-
 mod bench;
 mod edit;
 mod form;

@@ -1,7 +1,7 @@
 // The types of the simulator that are a value or nothing, as options and back.
+use flows::{FlowProperties, Rtt};
 use link::{Limit, LineValues};
 use meters::FlowRead;
-use flows::{FlowProperties, Rtt};
 use quantities::{OptionTime, Time, TimeSpan};
 use reading::SenderFlow;
 use remy::{Name, Next, ReturnLine};
