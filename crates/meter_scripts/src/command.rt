@@ -64,9 +64,9 @@ fn flow(line: Line) -> FlowProperties {
 }
 
 fn time_if_any(line: Line, k: usize) -> OptionTime {
-    match line.field(k) {
+    match line.time_if_any(k) {
         None => OptionTime::None,
-        Some(bits) => OptionTime::Some(Time(TimeSpan(from_bits(bits)))),
+        Some(time) => OptionTime::Some(time),
     }
 }
 
