@@ -1,5 +1,6 @@
 // Records, held states and flows as text, in the form of oracle/FORM.md.
 use crate::edit::slot;
+use crate::options::{back, known, name, next, read, rtt, time};
 use draws::Rng;
 use flows::FlowProperties;
 use link::{Line, Packet, Ring, Transit, Waiting};
@@ -37,8 +38,8 @@ impl fmt::Display for Form<TickRecord> {
             Form(note.time),
             note.part,
             Form(note.mark),
-            OrDash(note.packet.map(Form)),
-            OrDash(note.started.map(Form))
+            OrDash(name(note.packet).map(Form)),
+            OrDash(name(note.started).map(Form))
         )
     }
 }
@@ -87,7 +88,7 @@ impl fmt::Display for Form<&Simulation> {
         )?;
         let n = (st.network.senders as usize).min(16);
         let mut places = 2 * n + 1;
-        if st.network.back.is_some() {
+        if back(st.network.back).is_some() {
             write!(
                 f,
                 " return{}",
@@ -111,7 +112,7 @@ impl fmt::Display for Form<&Simulation> {
         }
         f.write_str(" queue=")?;
         for (k, place) in st.queue.iter().take(places).enumerate() {
-            write!(f, "{}{}", comma(k), OrDash(place.time.map(Form)))?;
+            write!(f, "{}{}", comma(k), OrDash(time(place.time).map(Form)))?;
         }
         Ok(())
     }
@@ -120,7 +121,12 @@ impl fmt::Display for Form<&Simulation> {
 impl fmt::Display for Form<Head> {
     fn fmt<W: fmt::Write>(&self, f: &mut fmt::Formatter<W>) -> fmt::Result {
         let head = self.0;
-        write!(f, "clock={} next={}", Form(head.clock), OrDash(head.next))
+        write!(
+            f,
+            "clock={} next={}",
+            Form(head.clock),
+            OrDash(next(head.next))
+        )
     }
 }
 
@@ -220,7 +226,7 @@ impl fmt::Display for Form<SenderState> {
                 Form(e.started),
                 e.greatest_ack,
                 e.cwnd,
-                OrDash(e.timer.map(Form))
+                OrDash(time(e.timer).map(Form))
             ),
         }
     }
@@ -230,7 +236,12 @@ impl fmt::Display for Form<Toggler> {
     fn fmt<W: fmt::Write>(&self, f: &mut fmt::Formatter<W>) -> fmt::Result {
         let toggler = self.0;
         let on = if toggler.enabled { "on" } else { "off" };
-        write!(f, "{on}:{}:{}", Form(toggler.next_toggle), Form(toggler.rng))
+        write!(
+            f,
+            "{on}:{}:{}",
+            Form(toggler.next_toggle),
+            Form(toggler.rng)
+        )
     }
 }
 
@@ -241,7 +252,7 @@ impl fmt::Display for Form<AverageFlowMeter> {
             f,
             "{}:{}:{}:{}:{}",
             Double(meter.total_time.0),
-            OrDash(meter.current_start.map(Form)),
+            OrDash(time(meter.current_start).map(Form)),
             meter.total.0,
             meter.records,
             Double(meter.rtt_sum.0)
@@ -276,17 +287,15 @@ impl fmt::Display for Flow<'_> {
     fn fmt<W: fmt::Write>(&self, f: &mut fmt::Formatter<W>) -> fmt::Result {
         let Flow(st, i) = *self;
         write!(f, "flow={i}")?;
-        if let (Some(sender), Some(meter)) = (st.senders.get(i as usize), st.meters.get(i as usize))
-        {
-            write!(
-                f,
-                " sent={} counted={}",
-                sender.packets_sent, meter.records
-            )?;
+        if let (Some(sender), Some(meter)) = (
+            st.senders.get(i as usize),
+            st.meters.get(i as usize),
+        ) {
+            write!(f, " sent={} counted={}", sender.packets_sent, meter.records)?;
         }
-        match reading::average_properties(*st, i) {
+        match read(reading::average_properties(*st, i)) {
             None => f.write_str(" -"),
-            Some(flow) => write!(f, " {}", Form(flow.ok())),
+            Some(flow) => write!(f, " {}", Form(known(flow))),
         }
     }
 }
@@ -295,7 +304,7 @@ impl fmt::Display for Flow<'_> {
 impl fmt::Display for Form<Option<FlowProperties>> {
     fn fmt<W: fmt::Write>(&self, f: &mut fmt::Formatter<W>) -> fmt::Result {
         let rate = self.0.map(|flow| Double(flow.throughput.0));
-        let rtt = self.0.and_then(|flow| flow.rtt.ok());
+        let rtt = self.0.and_then(|flow| rtt(flow.rtt));
         write!(f, "rate={} rtt={}", OrDash(rate), OrDash(rtt.map(Form)))
     }
 }

@@ -26,17 +26,16 @@
 
 ghost use Rattle.std.specs.Prelude.{◌≡◌, length};
 
-
-mod bench;
 mod edit;
 mod form;
 mod read;
 mod sink;
+mod states;
 mod whole;
 
-use bench::Bench;
 use script::input::read_full;
 use script::lines::Lines;
+use states::States;
 use std::io;
 
 fn main(rt: HostRuntime) -> io::Result<()> {
@@ -52,9 +51,9 @@ fn buffer() -> [u8; 524288]
 }
 
 fn run(rt: &impl Print, text: &[u8]) -> io::Result<()> {
-    let mut bench = Bench::new();
+    let mut states = States::new();
     for line in Lines::of(text) {
-        bench.obey(rt, line)?;
+        states.obey(rt, line)?;
     }
     Ok(())
 }

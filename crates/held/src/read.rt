@@ -3,8 +3,6 @@ ghost use Rattle.std.specs.Prelude.{◌<◌};
 
 use draws::ContinuousDistribution;
 use link::LineValues;
-use quantities::float::from_bits;
-use quantities::{Time, TimeSpan};
 use remy::RemyNetwork;
 use script::Line;
 use sender::Policy;
@@ -61,10 +59,4 @@ fn policy(line: Line) -> Policy {
         1 => Policy::Grown(first, most),
         _ => Policy::Timed(most, line.double(30)),
     }
-}
-
-// A field that may be absent, as a time.
-pub(crate) fn time_if_any(line: Line, k: usize) -> Option<Time> {
-    let bits = line.field(k)?;
-    Some(Time(TimeSpan(from_bits(bits))))
 }

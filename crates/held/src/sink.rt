@@ -1,9 +1,8 @@
 // Where the lines of a network go: they are printed, or folded into a digest.
 use crate::form::Form;
 use remy::Simulation;
-use std::fmt;
 use std::fmt::Write;
-use std::io;
+use std::{fmt, io};
 
 pub(crate) trait Sink {
     fn line<D: fmt::Display + Drop>(&mut self, line: D) -> io::Result<()>;

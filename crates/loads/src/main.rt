@@ -14,8 +14,7 @@ mod texts;
 use description::ReadDescription;
 use script::Line;
 use script::input::read_full;
-use std::fmt;
-use std::io;
+use std::{fmt, io};
 use sum::Sum;
 use texts::Texts;
 

@@ -10,7 +10,8 @@ use meters::{AverageFlowMeter, Metered};
 use quantities::InformationRate;
 use std::io;
 
-// The meter, the sums and the list. The list has the first 64 flows; a count of 65 is more than these.
+// The meter, the sums and the list. The list has the first 64 flows; a count of 65 is more than these. The kit's
+// `ArrayVec` is no plainer: it asks for a `Default` of a flow, which has none.
 #[derive(Clone, Copy)]
 pub(crate) struct Bench {
     meter: AverageFlowMeter,

@@ -1,8 +1,8 @@
 // The commands of a script.
-use flows::{FlowProperties, NoPacketsAcked};
+use flows::{FlowProperties, Rtt};
 use meters::{AverageFlowMeter, Reception};
 use quantities::float::from_bits;
-use quantities::{Information, InformationRate, Time, TimeSpan};
+use quantities::{Information, InformationRate, OptionTime, Time, TimeSpan};
 use script::Line;
 
 #[derive(Clone, Copy)]
@@ -63,16 +63,16 @@ fn flow(line: Line) -> FlowProperties {
     }
 }
 
-fn time_if_any(line: Line, k: usize) -> Option<Time> {
-    match line.field(k) {
-        None => None,
-        Some(bits) => Some(Time(TimeSpan(from_bits(bits)))),
+fn time_if_any(line: Line, k: usize) -> OptionTime {
+    match line.time_if_any(k) {
+        None => OptionTime::None,
+        Some(time) => OptionTime::Some(time),
     }
 }
 
-fn rtt(line: Line, k: usize) -> Result<TimeSpan, NoPacketsAcked> {
+fn rtt(line: Line, k: usize) -> Rtt {
     match line.field(k) {
-        None => Err(NoPacketsAcked),
-        Some(bits) => Ok(TimeSpan(from_bits(bits))),
+        None => Rtt::NoPacketsAcked,
+        Some(bits) => Rtt::Known(TimeSpan(from_bits(bits))),
     }
 }

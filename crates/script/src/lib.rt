@@ -2,9 +2,9 @@
 // byte that is no digit, or that is not there, counts as the digit 0.
 #![tactic(auto)]
 
-ghost use Rattle.std.specs.Prelude.{◌<◌, ◌≡◌, take, drop, from_bits, ◌%◌, ◌^◌};
+ghost use Rattle.std.specs.Prelude.{◌<◌, ◌≡◌, ℕ, ◌%◌, ◌^◌, Some, None, from_bits, MatchOption};
 ghost use Rattle.std.specs.Float.{binary64};
-ghost use Rattle.script.specs.Script.{byte_at, digit_of, field_at, field_of, number_at, line_length, next_line};
+ghost use Rattle.script.specs.Script.{byte_at, digit_of, field_at, field_of, number_at};
 
 pub mod input;
 pub mod lines;
@@ -26,6 +26,7 @@ impl Line<'_> {
     }
 
     // Field k as a number.
+    #[tactic(auto, using(crate::proofs::Digits::digit_more), unfolding(crate::specs::Script::value_of, crate::specs::Script::number_at))]
     pub fn number(&self, k: usize) -> u64
         ensures { result ≡ number_at self.now.0.now 0 k }
     {
@@ -68,6 +69,16 @@ impl Line<'_> {
         ensures { result.0.0 ≡ from_bits binary64 (number_at self.now.0.now 0 k) }
     {
         Time(TimeSpan(self.double(k)))
+    }
+
+    // Field k as a time, and nothing where it begins with `-`.
+    pub fn time_if_any(&self, k: usize) -> Option<Time>
+        ensures { MatchOption result (field_of self.now.0.now k ≡ None) (λ time. (n : ℕ) × (field_of self.now.0.now k ≡ Some n) × (time.0.0 ≡ from_bits binary64 n)) }
+    {
+        match self.field(k) {
+            None => None,
+            Some(bits) => Some(Time(TimeSpan(from_bits(bits)))),
+        }
     }
 }
 

@@ -1,5 +1,5 @@
 // The lines of a script, one after the other.
-ghost use Rattle.std.specs.Prelude.{◌<◌, ◌≡◌, take, drop, length, position, MatchOption, ◌==◌};
+ghost use Rattle.std.specs.Prelude.{◌≡◌, take, drop, length, position, MatchOption, ◌==◌};
 ghost use Rattle.std.specs.Iterator.{at_most};
 ghost use Rattle.script.specs.Script.{line_length, next_line};
 

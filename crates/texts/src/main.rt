@@ -7,8 +7,7 @@
 
 use printer::Put;
 use script::input::read_full;
-use std::io;
-use std::str;
+use std::{io, str};
 
 // The most texts of a list.
 const MOST: u32 = 100000;

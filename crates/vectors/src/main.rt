@@ -114,42 +114,35 @@ fn samples(rt: &impl Print) -> io::Result<()> {
 }
 
 fn draws(rt: &impl Print) -> io::Result<()> {
-    println!(rt; "uniform 3..4 from the words 1, 2, 3, 4")?;
-    positive(
-        rt,
-        ContinuousDistribution::Uniform(3.0, 4.0),
-        Rng::from_words(1, 2, 3, 4),
-    )?;
-    println!(rt; "uniform 0..2^-1074 from the words 0, 0, 0, 2^40: drawn again")?;
-    positive(
-        rt,
-        ContinuousDistribution::Uniform(0.0, 5e-324),
-        Rng::from_words(0, 0, 0, 1099511627776),
-    )?;
-    println!(rt; "uniform 0..2^-1074 from the words 0, 0, 0, 1: spent")?;
-    positive(
-        rt,
-        ContinuousDistribution::Uniform(0.0, 5e-324),
-        Rng::from_words(0, 0, 0, 1),
-    )?;
-    println!(rt; "uniform 0..2^-1074 from four zero words")?;
-    positive(
-        rt,
-        ContinuousDistribution::Uniform(0.0, 5e-324),
-        Rng::from_words(0, 0, 0, 0),
-    )?;
-    println!(rt; "always 2.5: no word drawn")?;
-    positive(
-        rt,
-        ContinuousDistribution::Always(2.5),
-        Rng::from_words(1, 2, 3, 4),
-    )?;
-    println!(rt; "always 0: spent, no word drawn")?;
-    positive(
-        rt,
-        ContinuousDistribution::Always(0.0),
-        Rng::from_words(1, 2, 3, 4),
-    )
+    use ContinuousDistribution::{Always, Uniform};
+    for (title, distribution, [a, b, c, d]) in [
+        (
+            "uniform 3..4 from the words 1, 2, 3, 4",
+            Uniform(3.0, 4.0),
+            [1, 2, 3, 4],
+        ),
+        (
+            "uniform 0..2^-1074 from the words 0, 0, 0, 2^40: drawn again",
+            Uniform(0.0, 5e-324),
+            [0, 0, 0, 1 << 40],
+        ),
+        (
+            "uniform 0..2^-1074 from the words 0, 0, 0, 1: spent",
+            Uniform(0.0, 5e-324),
+            [0, 0, 0, 1],
+        ),
+        (
+            "uniform 0..2^-1074 from four zero words",
+            Uniform(0.0, 5e-324),
+            [0, 0, 0, 0],
+        ),
+        ("always 2.5: no word drawn", Always(2.5), [1, 2, 3, 4]),
+        ("always 0: spent, no word drawn", Always(0.0), [1, 2, 3, 4]),
+    ] {
+        println!(rt; "{title}")?;
+        positive(rt, distribution, Rng::from_words(a, b, c, d))?;
+    }
+    Ok(())
 }
 
 // Document 01's number of a redraw, its value if any, and the generator's words after it.

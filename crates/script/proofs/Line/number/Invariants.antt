@@ -1,6 +1,6 @@
 -- After i digits the number is their value, below 16 to the power i. Assumes nothing.
 use mathlib.Core.Path.{◌≡◌}
-use Prim.Native.Nat.{◌-◌, ◌^◌, ◌≤◌, ◌<◌}
+use Prim.Native.Nat.{◌^◌, ◌≤◌, ◌<◌}
 use Rattle.script.specs.Script.{value_of}
 use Rattle.script.proofs.Line.number.Given as goal
 

@@ -1,10 +1,9 @@
-// What the commands work on.
+// The states that the commands work on.
 use crate::edit::edit;
 use crate::form::{Flow, Form};
 use crate::read::network;
 use crate::sink::{Digest, Shown, Sink};
 use crate::whole::digest;
-use quantities::Time;
 use remy::{Built, Simulation};
 use script::Line;
 use script::print::Hex;
@@ -12,16 +11,16 @@ use std::io;
 
 // The held state, and the one that was kept.
 #[derive(Clone, Copy)]
-pub(crate) struct Bench {
+pub(crate) struct States {
     held: Simulation,
     kept: Simulation,
 }
 
-impl Bench {
+impl States {
     // A refused build returns the empty simulation: here the rate is 0.
     pub(crate) fn new() -> Self {
         let empty = build(Line(&[])).simulation;
-        Bench {
+        States {
             held: empty,
             kept: empty,
         }
@@ -108,7 +107,10 @@ impl Bench {
 
     // How many ticks moved, the last number, and the clock.
     fn counted(&self, rt: &impl Print, word: &str, moved: u32, number: u32) -> io::Result<()> {
-        println!(rt; "{word} {moved} {number} {}", Form(reading::time(self.held)))
+        println!(rt;
+            "{word} {moved} {number} {}",
+            Form(reading::time(self.held))
+        )
     }
 }
 
