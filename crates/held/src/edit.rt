@@ -2,7 +2,6 @@
 // nothing.
 ghost use Rattle.std.specs.Prelude.{◌<◌};
 
-use crate::options::{of_next, option_time};
 use crate::read::network;
 use draws::Rng;
 use link::{Packet, Ring, Transit, Waiting};
@@ -48,7 +47,7 @@ fn put<T: Copy>(line: Line, all: &mut [T], element: T) {
 fn head(line: Line) -> Head {
     Head {
         clock: line.time(0),
-        next: of_next(line.field(1).map(|_| size(line, 1))),
+        next: line.field(1).map(|_| size(line, 1)),
     }
 }
 
@@ -122,7 +121,7 @@ fn state(line: Line) -> SenderState {
         started: line.time(3),
         greatest_ack: line.narrow(4),
         cwnd: line.narrow(5),
-        timer: option_time(line.time_if_any(6)),
+        timer: line.time_if_any(6),
     })
 }
 
@@ -144,7 +143,7 @@ fn toggler(line: Line) -> Toggler {
 fn meter(line: Line) -> AverageFlowMeter {
     AverageFlowMeter {
         total_time: TimeSpan(line.double(1)),
-        current_start: option_time(line.time_if_any(2)),
+        current_start: line.time_if_any(2),
         total: Information(line.number(3)),
         records: line.narrow(4),
         rtt_sum: TimeSpan(line.double(5)),
@@ -154,7 +153,7 @@ fn meter(line: Line) -> AverageFlowMeter {
 // Q place time
 fn queued(line: Line) -> Queued {
     Queued {
-        time: option_time(line.time_if_any(1)),
+        time: line.time_if_any(1),
     }
 }
 

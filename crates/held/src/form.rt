@@ -1,6 +1,5 @@
 // Records, held states and flows as text, in the form of oracle/FORM.md.
 use crate::edit::slot;
-use crate::options::{back, known, name, next, read, rtt, time};
 use draws::Rng;
 use flows::FlowProperties;
 use link::{Line, Packet, Ring, Transit, Waiting};
@@ -38,8 +37,8 @@ impl fmt::Display for Form<TickRecord> {
             Form(note.time),
             note.part,
             Form(note.mark),
-            OrDash(name(note.packet).map(Form)),
-            OrDash(name(note.started).map(Form))
+            OrDash(note.packet.map(Form)),
+            OrDash(note.started.map(Form))
         )
     }
 }
@@ -88,7 +87,7 @@ impl fmt::Display for Form<&Simulation> {
         )?;
         let n = (st.network.senders as usize).min(16);
         let mut places = 2 * n + 1;
-        if back(st.network.back).is_some() {
+        if st.network.back.is_some() {
             write!(
                 f,
                 " return{}",
@@ -112,7 +111,7 @@ impl fmt::Display for Form<&Simulation> {
         }
         f.write_str(" queue=")?;
         for (k, place) in st.queue.iter().take(places).enumerate() {
-            write!(f, "{}{}", comma(k), OrDash(time(place.time).map(Form)))?;
+            write!(f, "{}{}", comma(k), OrDash(place.time.map(Form)))?;
         }
         Ok(())
     }
@@ -125,7 +124,7 @@ impl fmt::Display for Form<Head> {
             f,
             "clock={} next={}",
             Form(head.clock),
-            OrDash(next(head.next))
+            OrDash(head.next)
         )
     }
 }
@@ -226,7 +225,7 @@ impl fmt::Display for Form<SenderState> {
                 Form(e.started),
                 e.greatest_ack,
                 e.cwnd,
-                OrDash(time(e.timer).map(Form))
+                OrDash(e.timer.map(Form))
             ),
         }
     }
@@ -252,7 +251,7 @@ impl fmt::Display for Form<AverageFlowMeter> {
             f,
             "{}:{}:{}:{}:{}",
             Double(meter.total_time.0),
-            OrDash(time(meter.current_start).map(Form)),
+            OrDash(meter.current_start.map(Form)),
             meter.total.0,
             meter.records,
             Double(meter.rtt_sum.0)
@@ -293,9 +292,9 @@ impl fmt::Display for Flow<'_> {
         ) {
             write!(f, " sent={} counted={}", sender.packets_sent, meter.records)?;
         }
-        match read(reading::average_properties(*st, i)) {
+        match reading::average_properties(*st, i) {
             None => f.write_str(" -"),
-            Some(flow) => write!(f, " {}", Form(known(flow))),
+            Some(flow) => write!(f, " {}", Form(flow.ok())),
         }
     }
 }
@@ -304,7 +303,7 @@ impl fmt::Display for Flow<'_> {
 impl fmt::Display for Form<Option<FlowProperties>> {
     fn fmt<W: fmt::Write>(&self, f: &mut fmt::Formatter<W>) -> fmt::Result {
         let rate = self.0.map(|flow| Double(flow.throughput.0));
-        let rtt = self.0.and_then(|flow| rtt(flow.rtt));
+        let rtt = self.0.and_then(|flow| flow.rtt.ok());
         write!(f, "rate={} rtt={}", OrDash(rate), OrDash(rtt.map(Form)))
     }
 }

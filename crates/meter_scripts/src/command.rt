@@ -1,8 +1,8 @@
 // The commands of a script.
-use flows::{FlowProperties, Rtt};
+use flows::{FlowProperties, NoPacketsAcked};
 use meters::{AverageFlowMeter, Reception};
 use quantities::float::from_bits;
-use quantities::{Information, InformationRate, OptionTime, Time, TimeSpan};
+use quantities::{Information, InformationRate, Time, TimeSpan};
 use script::Line;
 
 #[derive(Clone, Copy)]
@@ -42,7 +42,7 @@ impl Command {
 fn meter(line: Line) -> AverageFlowMeter {
     AverageFlowMeter {
         total_time: TimeSpan(line.double(0)),
-        current_start: time_if_any(line, 1),
+        current_start: line.time_if_any(1),
         total: Information(line.number(2)),
         records: line.narrow(3),
         rtt_sum: TimeSpan(line.double(4)),
@@ -63,16 +63,10 @@ fn flow(line: Line) -> FlowProperties {
     }
 }
 
-fn time_if_any(line: Line, k: usize) -> OptionTime {
-    match line.time_if_any(k) {
-        None => OptionTime::None,
-        Some(time) => OptionTime::Some(time),
-    }
-}
 
-fn rtt(line: Line, k: usize) -> Rtt {
+fn rtt(line: Line, k: usize) -> Result<TimeSpan, NoPacketsAcked> {
     match line.field(k) {
-        None => Rtt::NoPacketsAcked,
-        Some(bits) => Rtt::Known(TimeSpan(from_bits(bits))),
+        None => Err(NoPacketsAcked),
+        Some(bits) => Ok(TimeSpan(from_bits(bits))),
     }
 }

@@ -13,7 +13,7 @@ pub mod print;
 use quantities::float::from_bits;
 use quantities::{Time, TimeSpan};
 
-// A line of a script, as the bytes that it has.
+// A line of a script, as the text from its start on.
 #[derive(Clone, Copy)]
 pub struct Line<'a>(pub &'a [u8]);
 

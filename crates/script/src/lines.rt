@@ -1,5 +1,6 @@
-// The lines of a script, one after the other.
-ghost use Rattle.std.specs.Prelude.{◌≡◌, take, drop, length, position, MatchOption, ◌==◌};
+// The lines of a script, one after the other. A line is the text from its start on, so that a field that a
+// line does not have is read from the next one.
+ghost use Rattle.std.specs.Prelude.{◌≡◌, drop, length, position, MatchOption, ◌==◌};
 ghost use Rattle.std.specs.Iterator.{at_most};
 ghost use Rattle.script.specs.Script.{line_length, next_line};
 
@@ -10,7 +11,7 @@ use crate::Line;
 pub struct Lines<'a>(&'a [u8]);
 
 impl<'a> Lines<'a> {
-    // The lines of a text, each with its LF.
+    // The lines of a text.
     pub fn of(text: &'a [u8]) -> Self
         ensures { result.0.now ≡ text.now }
     {
@@ -21,7 +22,7 @@ impl<'a> Lines<'a> {
 impl<'a> Iterator for Lines<'a> {
     type Item = Line<'a>;
 
-    ghost next_gives = { λ s r t. MatchOption r ((length s.0.now ≡ 0) × (t ≡ s)) (λ x. (x.0.now ≡ take (next_line s.0.now 0) s.0.now) × (t.0.now ≡ drop (next_line s.0.now 0) s.0.now)) };
+    ghost next_gives = { λ s r t. MatchOption r ((length s.0.now ≡ 0) × (t ≡ s)) (λ x. (x.0.now ≡ s.0.now) × (t.0.now ≡ drop (next_line s.0.now 0) s.0.now)) };
 
     ghost remaining = { λ s. at_most (length s.0.now) };
 
@@ -29,9 +30,10 @@ impl<'a> Iterator for Lines<'a> {
         if self.0.is_empty() {
             return None;
         }
-        let (line, rest) = self.0.split_at(line_length(self.0));
+        let line = Line(self.0);
+        let (_, rest) = self.0.split_at(line_length(self.0));
         self.0 = rest;
-        Some(Line(line))
+        Some(line)
     }
 }
 

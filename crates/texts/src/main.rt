@@ -5,9 +5,10 @@
 // that is cut short is passed over.
 #![tactic(auto)]
 
-use printer::Put;
+ghost use Rattle.std.specs.Prelude.{◌≤◌};
+
 use script::input::read_full;
-use std::{io, str};
+use std::io;
 
 // The most texts of a list.
 const MOST: u32 = 100000;
@@ -27,11 +28,8 @@ fn next_text(rt: &HostRuntime) -> io::Result<bool> {
     if read_full(&mut rt.stdin(), &mut head)? < head.len() {
         return Ok(false);
     }
-    let Some(length) = length(&head) else {
-        return Ok(false);
-    };
     let mut text = [0u8; 65536];
-    let n = text.len().min(length);
+    let n = text.len().min(length(head));
     read(rt, &mut text[..n])?;
     Ok(true)
 }
@@ -42,18 +40,31 @@ fn read(rt: &HostRuntime, text: &mut [u8]) -> io::Result<()> {
     answer(rt, &text[..got])
 }
 
-// The number that the five digits of a head are.
-fn length(head: &[u8; 6]) -> Option<usize> {
-    str::from_utf8(&head[..5]).ok()?.parse().ok()
+// The number that the first five digits of a head are. A byte that is no digit counts as 0, which `parse` refuses.
+fn length(head: [u8; 6]) -> usize {
+    10000 * digit(head[0])
+        + 1000 * digit(head[1])
+        + 100 * digit(head[2])
+        + 10 * digit(head[3])
+        + digit(head[4])
+}
+
+fn digit(b: u8) -> usize
+    ensures { result ≤ 9 }
+{
+    match b {
+        b'0'..=b'9' => (b - b'0') as usize,
+        _ => 0,
+    }
 }
 
 fn answer(rt: &impl Print, text: &[u8]) -> io::Result<()> {
     let mut out = [0u8; 65536];
     match filling::print_run(text, &mut out) {
-        Put::At(at) => {
+        Some(at) => {
             rt.write_all(&out[..at.min(65536)])?;
             println!(rt)
         }
-        Put::Full => println!(rt; "too long\n"),
+        None => println!(rt; "too long\n"),
     }
 }
