@@ -14,7 +14,6 @@ use Rattle.toggler.specs.Queue.{no_queued}
 use Rattle.remy.specs.declared.simulation.Head.{Head}
 use Rattle.remy.specs.State.{Role, link, bouncer, sender, toggler, nobody, role_of}
 use Rattle.queueing.specs.declared.Now.{Now}
-use Rattle.queueing.specs.declared.Now.TheVariants as Now
 
 -- ---- whose turn it is
 

@@ -9,15 +9,15 @@ ghost use Rattle.remy.specs.State.{has_back, link, role_of, part_count};
 ghost use Rattle.remy.specs.Queue.{part_of, head_of};
 ghost use Rattle.queueing.specs.Queueing.{now_role, now_of, link_slot, sender_slot, toggler_slot, place_after_pick};
 
-use link::{Line, Transit};
-use quantities::{Time};
+use link::{Line, LineValues, Transit};
+use quantities::Time;
 use ranges::lines::has_back;
-use remy::{Head};
+use remy::Head;
 use sender::LossySender;
 use toggler::{Picked, Queued, Toggler};
 
 // Whose turn it is: a part's, the link's by its line, or nobody's with the number of the stop (0 for
-// idle).
+// idle). Four cases, so no Option.
 #[derive(Clone, Copy)]
 pub enum Now {
     Stop(u32),
@@ -27,14 +27,14 @@ pub enum Now {
 }
 
 // 9, idle and 10, and then the part by its number.
+#[tactic(auto, unfolding(crate::specs::Queueing::now_of))]
 pub fn whose_turn(fit: bool, head: Head, senders: u32, back: Option<LineValues>) -> Now
     ensures { result ≡ now_of fit head senders (has_back back) }
 {
     if !fit {
         return Now::Stop(9);
     }
-    let next = head.next;
-    let Some(k) = next else {
+    let Some(k) = head.next else {
         return Now::Stop(0);
     };
     if 1099511627776.0 < head.clock.0.0 {
@@ -44,6 +44,7 @@ pub fn whose_turn(fit: bool, head: Head, senders: u32, back: Option<LineValues>)
 }
 
 // Whose turn it is where it is the turn of part k. It is never the bouncer's (9).
+#[tactic(auto, unfolding(remy::specs::State::role_of))]
 pub fn role(k: usize, senders: u32, back: bool) -> Now
     ensures { result ≡ now_role (role_of senders back k) }
 {
@@ -52,22 +53,12 @@ pub fn role(k: usize, senders: u32, back: bool) -> Now
     }
     let n = senders as usize;
     let i = (k - 1) / 2;
-    if i < n {
-        if k % 2 == 1 {
-            return Now::Sender(i);
-        }
-        return Now::Toggler(i);
+    match k % 2 {
+        1 if i < n => Now::Sender(i),
+        0 if i < n => Now::Toggler(i),
+        0 if back && i == n => Now::Link(1),
+        _ => Now::Stop(9),
     }
-    if !back {
-        return Now::Stop(9);
-    }
-    if i != n {
-        return Now::Stop(9);
-    }
-    if k % 2 == 1 {
-        return Now::Stop(9);
-    }
-    Now::Link(1)
 }
 
 // The part of the link of line l among so many senders, which is also its place in the queue.
@@ -77,25 +68,22 @@ pub fn link_part(l: usize, senders: u32) -> usize
     requires { senders ≤ 16 }
     ensures { result ≡ part_of senders (link l) }
 {
-    if l == 0 {
-        return 0;
+    match l {
+        0 => 0,
+        _ => 2 + 2 * (senders as usize),
     }
-    2 + 2 * (senders as usize)
 }
 
 // How many parts there are among so many senders, with a return line or without.
 pub fn part_count(senders: u32, back: Option<LineValues>) -> usize
     ensures { result ≡ part_count senders (has_back back) }
 {
-    let each = 2 * (senders as usize);
-    if has_back(back) {
-        return 3 + each;
-    }
-    1 + each
+    let lines = if has_back(back) { 3 } else { 1 };
+    lines + 2 * (senders as usize)
 }
 
 // A time made anew from its parts: the machine code then copies no bytes between them (docs/BENCHMARKS.md,
-// "Values made anew").
+// "Values made anew"). `time` as it is, a copy of the enum, is slower.
 pub fn time_anew(time: Option<Time>) -> Option<Time>
     ensures { result ≡ time }
 {
@@ -105,12 +93,13 @@ pub fn time_anew(time: Option<Time>) -> Option<Time>
     }
 }
 
+// A place made anew from its parts, since a copy is slower (`time_anew`).
 fn queued_anew(old: Queued) -> Queued
     ensures { result ≡ old }
 {
-    let held = old.time;
-    let time = time_anew(held);
-    Queued { time }
+    Queued {
+        time: time_anew(old.time),
+    }
 }
 
 // What the place of a link in the queue holds, and of a sender: anew where something changed, else what
@@ -118,45 +107,42 @@ fn queued_anew(old: Queued) -> Queued
 pub fn link_slot(changed: bool, line: Line, clock: Time, front: Transit, old: Queued) -> Queued
     ensures { result ≡ link_slot changed line clock front old }
 {
-    if !changed {
-        return queued_anew(old);
+    if changed {
+        Queued {
+            time: link::next_tick(line, clock, front.due),
+        }
+    } else {
+        queued_anew(old)
     }
-    let time = link::next_tick(line, clock, front.due);
-    Queued { time }
 }
 
 pub fn sender_slot(changed: bool, sender: LossySender, clock: Time, old: Queued) -> Queued
     ensures { result ≡ sender_slot changed sender clock old }
 {
-    if !changed {
-        return queued_anew(old);
+    if changed {
+        Queued {
+            time: sender.next_tick(clock),
+        }
+    } else {
+        queued_anew(old)
     }
-    let time = sender.next_tick(clock);
-    Queued { time }
 }
 
 pub fn toggler_slot(toggler: Toggler) -> Queued
     ensures { result ≡ toggler_slot toggler }
 {
-    let at = toggler.next_toggle;
-    let time = Some(at);
-    Queued { time }
+    Queued {
+        time: Some(toggler.next_toggle),
+    }
 }
 
 // The clock and the next part after a pick.
 pub fn head_of(best: Picked) -> Head
     ensures { result ≡ head_of best best.time }
 {
-    let time = best.time;
-    match time {
-        None => Head {
-            clock: Time::MAX,
-            next: None,
-        },
-        Some(clock) => Head {
-            clock,
-            next: Some(best.part),
-        },
+    Head {
+        clock: best.time.unwrap_or(Time::MAX),
+        next: best.time.map(|_| best.part),
     }
 }
 
@@ -164,11 +150,8 @@ pub fn head_of(best: Picked) -> Head
 pub fn place_after(best: Picked, old: Queued) -> Queued
     ensures { result ≡ place_after_pick best.time old }
 {
-    let time = best.time;
-    match time {
+    match best.time {
         None => old,
-        Some(_) => Queued {
-            time: None,
-        },
+        Some(_) => Queued { time: None },
     }
 }

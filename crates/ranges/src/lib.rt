@@ -10,28 +10,22 @@ pub mod frame;
 pub mod lines;
 
 use draws::ContinuousDistribution;
-use link::{LineValues};
+use link::LineValues;
 use quantities::float::in_range;
-use remy::{RemyNetwork};
+use remy::RemyNetwork;
 use sender::Policy;
 
 // The number of the first range that a network is not in, 1 to 7 and then 20, or 0.
+#[tactic(auto, unfolding(remy::specs::Network::network_stop, crate::specs::Frame::values_stop))]
 pub fn network_stop(network: RemyNetwork) -> u32
     ensures { result ≡ network_stop network }
 {
-    let line = network.line;
-    let bits = network.bits;
-    let on = network.on;
-    let off = network.off;
-    let policy = network.policy;
-    let back = network.back;
-    let policy_passes = policy_fit(policy);
-    let back_passes = back_fit(back);
-    let from_20 = stop_unless(back_passes, 20, 0);
-    let from_7 = stop_unless(policy_passes, 7, from_20);
-    let from_6 = stop_unless(times_fit(on), 6, stop_unless(times_fit(off), 6, from_7));
-    let from_5 = stop_unless(sizes_fit(bits, network.senders), 5, from_6);
-    values_stop(line, from_5)
+    let from_20 = stop_unless(back_fit(network.back), 20, 0);
+    let from_7 = stop_unless(policy_fit(network.policy), 7, from_20);
+    let times_pass = times_fit(network.on) && times_fit(network.off);
+    let from_6 = stop_unless(times_pass, 6, from_7);
+    let from_5 = stop_unless(sizes_fit(network.bits, network.senders), 5, from_6);
+    values_stop(network.line, from_5)
 }
 
 // A number where a test fails, and what the tests after it give where it passes.
@@ -43,11 +37,11 @@ fn stop_unless(fit: bool, number: u32, later: u32) -> u32
 
 // The number of the first range that a line's values are not in, 1 to 4, or what the tests after them
 // give.
+#[tactic(auto, unfolding(crate::specs::Frame::values_stop))]
 fn values_stop(values: LineValues, later: u32) -> u32
     ensures { result ≡ values_stop values later }
 {
-    let limit = values.limit;
-    let from_4 = stop_unless(limit_fit(limit), 4, later);
+    let from_4 = stop_unless(limit_fit(values.limit), 4, later);
     let from_3 = stop_unless(in_range(0.0, 1.0, values.loss), 3, from_4);
     let from_2 = stop_unless(in_range(1.0, 1125899906842624.0, values.rate), 2, from_3);
     stop_unless(in_range(0.0, 1048576.0, values.delay), 1, from_2)
@@ -57,31 +51,14 @@ fn values_stop(values: LineValues, later: u32) -> u32
 fn limit_fit(limit: Option<u64>) -> bool
     ensures { result ≡ limit_fit limit }
 {
-    match limit {
-        None => true,
-        Some(most) => most <= 1125899906842624,
-    }
+    limit.is_none_or(|most| most <= 1125899906842624)
 }
 
 // Whether there are at most 16 senders, and the packets of each have 1 to 2^24 bits.
 fn sizes_fit(bits: [u64; 16], senders: u32) -> bool
     ensures { result ≡ sizes_fit bits senders }
 {
-    if senders > 16 {
-        return false;
-    }
-    let mut i: u32 = 0;
-    while i < senders {
-        let size = bits[i as usize];
-        if size < 1 {
-            return false;
-        }
-        if size > 16777216 {
-            return false;
-        }
-        i += 1;
-    }
-    true
+    senders <= 16 && (0..senders as usize).all(|i| 1 <= bits[i] && bits[i] <= 16777216)
 }
 
 // Whether the times that a distribution draws are in their range.
@@ -89,21 +66,8 @@ fn times_fit(times: ContinuousDistribution) -> bool
     ensures { result ≡ times_fit times }
 {
     match times {
-        ContinuousDistribution::Always(v) => {
-            if 0.0 < v {
-                return v <= 1048576.0;
-            }
-            false
-        }
-        ContinuousDistribution::Uniform(min, max) => {
-            if 0.0 <= min {
-                if min < max {
-                    return max <= 1048576.0;
-                }
-                return false;
-            }
-            false
-        }
+        ContinuousDistribution::Always(v) => 0.0 < v && v <= 1048576.0,
+        ContinuousDistribution::Uniform(min, max) => 0.0 <= min && min < max && max <= 1048576.0,
     }
 }
 
@@ -111,10 +75,7 @@ fn times_fit(times: ContinuousDistribution) -> bool
 pub fn window_fit(window: u32) -> bool
     ensures { result ≡ window_fit window }
 {
-    if window < 1 {
-        return false;
-    }
-    window <= 64
+    1 <= window && window <= 64
 }
 
 // Whether a policy's windows and gap are in their ranges.
@@ -123,30 +84,17 @@ fn policy_fit(policy: Policy) -> bool
 {
     match policy {
         Policy::Held(w) => window_fit(w),
-        Policy::Grown(first, most) => {
-            if !window_fit(first) {
-                return false;
-            }
-            if !window_fit(most) {
-                return false;
-            }
-            first <= most
-        }
+        Policy::Grown(first, most) => window_fit(first) && window_fit(most) && first <= most,
         Policy::Timed(most, gap) => {
-            if !window_fit(most) {
-                return false;
-            }
-            in_range(0.00000095367431640625, 1048576.0, gap)
+            window_fit(most) && in_range(0.00000095367431640625, 1048576.0, gap)
         }
     }
 }
 
 // Whether there is no return line, or its values are in the ranges of 1 to 4.
+#[tactic(auto, unfolding(crate::specs::Frame::values_stop))]
 fn back_fit(back: Option<LineValues>) -> bool
     ensures { result ≡ back_fit back }
 {
-    match back {
-        None => true,
-        Some(values) => values_stop(values, 0) == 0,
-    }
+    back.is_none_or(|values| values_stop(values, 0) == 0)
 }

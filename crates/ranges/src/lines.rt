@@ -8,10 +8,7 @@ use link::LineValues;
 pub fn has_back(back: Option<LineValues>) -> bool
     ensures { result ≡ has_back back }
 {
-    match back {
-        None => false,
-        Some(_) => true,
-    }
+    back.is_some()
 }
 
 // How many lines there are: two with a return line.
@@ -26,11 +23,5 @@ pub fn line_count(back: Option<LineValues>) -> usize
 pub fn values_of(first: LineValues, back: Option<LineValues>, l: usize) -> LineValues
     ensures { result ≡ values_at first back l }
 {
-    if l == 0 {
-        return first;
-    }
-    match back {
-        None => first,
-        Some(values) => values,
-    }
+    if l == 0 { first } else { back.unwrap_or(first) }
 }

@@ -11,7 +11,6 @@ use Rattle.link.specs.declared.link.Line.{Line}
 use Rattle.link.specs.declared.link.LineValues.{LineValues}
 use Rattle.link.specs.declared.link.Arrival.{Arrival}
 use Rattle.link.specs.declared.link.Left.{Left}
-use Rattle.link.specs.declared.link.Left.TheVariants as Left
 use Rattle.link.specs.declared.link.Delivered.{Delivered}
 use Rattle.link.specs.declared.link.Transmitted.{Transmitted}
 use Rattle.sender.specs.declared.lossy.Policy.{Policy}
@@ -21,14 +20,12 @@ use Rattle.sender.specs.declared.lossy.SenderState.TheVariants as State
 use Rattle.sender.specs.declared.lossy.LossySender.{LossySender}
 use Rattle.sender.specs.declared.lossy.Sent.{Sent}
 use Rattle.sender.specs.declared.lossy.Heard.{Heard}
-use Rattle.sender.specs.declared.lossy.Heard.TheVariants as Heard
 use Rattle.sender.specs.declared.lossy.Returned.{Returned}
 use Rattle.link.specs.Ring.{place_after}
 use Rattle.link.specs.Link.{receive_of, try_deliver, try_transmit}
 use Rattle.sender.specs.Sender.{timer_due, tick_timer, tick_send, enabled_of, disabled_of, returned_of}
 use Rattle.remy.specs.declared.network.RemyNetwork.{RemyNetwork}
 use Rattle.remy.specs.declared.simulation.Mark.{Mark}
-use Rattle.remy.specs.declared.simulation.Mark.TheVariants as Mark
 use Rattle.remy.specs.declared.simulation.TickRecord.{TickRecord}
 use Rattle.remy.specs.State.{sender_part, toggler_part}
 use Rattle.remy.specs.Tick.{named, begun_name, admitted_mark, full_mark, lost_mark, to_bouncer, enabled_sender, heard_mark}

@@ -15,6 +15,7 @@ use link::{Left, Line, Packet, Transit, Waiting};
 use meters::{AverageFlowMeter, Reception};
 use quantities::{Information, InformationRate, Time, TimeSpan};
 use queueing::time_anew;
+use ranges::lines::{has_back, values_of};
 use remy::{Mark, Noted, RemyNetwork, TickRecord};
 use sender::{Enabled, Heard, LossySender, Policy, SenderState};
 
@@ -46,13 +47,7 @@ pub struct Hearing {
     pub meter: AverageFlowMeter,
 }
 
-// What a turn sends to a link: nothing, which is a sender's timer or no packet to pass on, or a packet.
-#[derive(Clone, Copy)]
-pub enum Sending {
-    Nothing,
-    Packet(Packet),
-}
-
+// What a sender did: the number, the packet that it sends (none where its timer goes), and the sender.
 #[derive(Clone, Copy)]
 pub struct SenderActed {
     pub number: u32,
@@ -72,80 +67,59 @@ pub struct Arriving {
     pub line: Line,
 }
 
-// Values made anew from their parts (`queueing::time_anew`).
+// Values made anew from their parts, since copies are slower (`queueing::time_anew`).
 fn packet_anew(packet: Packet) -> Packet
     ensures { result ≡ packet }
 {
-    let sent_time = packet.sent_time;
     Packet {
         sender: packet.sender,
         seq: packet.seq,
-        sent_time,
+        sent_time: packet.sent_time,
     }
 }
 
 fn waiting_anew(waiting: Waiting) -> Waiting
     ensures { result ≡ waiting }
 {
-    let held = waiting.packet;
-    let packet = packet_anew(held);
-    let bits = waiting.bits;
-    Waiting { packet, bits }
+    Waiting {
+        packet: packet_anew(waiting.packet),
+        bits: waiting.bits,
+    }
 }
 
 fn transit_anew(transit: Transit) -> Transit
     ensures { result ≡ transit }
 {
-    let held = transit.packet;
-    let packet = packet_anew(held);
-    let due = transit.due;
-    Transit { packet, due }
+    Transit {
+        packet: packet_anew(transit.packet),
+        due: transit.due,
+    }
 }
 
 fn meter_anew(meter: AverageFlowMeter) -> AverageFlowMeter
     ensures { result ≡ meter }
 {
-    let total_time = meter.total_time;
-    let start = meter.current_start;
-    let current_start = time_anew(start);
-    let total = meter.total;
-    let rtt_sum = meter.rtt_sum;
     AverageFlowMeter {
-        total_time,
-        current_start,
-        total,
-        records: meter.records,
-        rtt_sum,
+        current_start: time_anew(meter.current_start),
+        ..meter
     }
 }
 
 fn sender_anew(sender: LossySender) -> LossySender
     ensures { result ≡ sender }
 {
-    let state = sender.state;
-    let rng = sender.rng;
-    match state {
+    match sender.state {
         SenderState::WaitingForEnable => LossySender {
-            packets_sent: sender.packets_sent,
             state: SenderState::WaitingForEnable,
-            rng,
+            ..sender
         },
-        SenderState::Enabled(enabled) => {
-            let started = enabled.started;
-            let held = enabled.timer;
-            let timer = time_anew(held);
-            let same = Enabled {
-                started,
-                greatest_ack: enabled.greatest_ack,
-                cwnd: enabled.cwnd,
-                timer,
-            };
-            LossySender {
-                packets_sent: sender.packets_sent,
-                state: SenderState::Enabled(same),
-                rng,
-            }
-        }
+        SenderState::Enabled(enabled) => LossySender {
+            state: SenderState::Enabled(Enabled {
+                timer: time_anew(enabled.timer),
+                ..enabled
+            }),
+            ..sender
+        },
     }
 }
 
@@ -161,35 +135,22 @@ pub fn owner(packet: Packet) -> usize
 }
 
 // What the turn of the link of line l reads of the line's values.
+#[tactic(auto, using(ranges::proofs::Bounds::values_same))]
 pub fn values_at(network: RemyNetwork, l: usize) -> LinkValues
     ensures { result ≡ link_values (values_of network l) }
 {
-    let first = network.line;
-    let back = network.back;
-    if l == 0 {
-        return LinkValues {
-            delay: first.delay,
-            rate: first.rate,
-            loss: first.loss,
-        };
-    }
-    match back {
-        None => LinkValues {
-            delay: first.delay,
-            rate: first.rate,
-            loss: first.loss,
-        },
-        Some(second) => LinkValues {
-            delay: second.delay,
-            rate: second.rate,
-            loss: second.loss,
-        },
+    let values = values_of(network.line, network.back, l);
+    LinkValues {
+        delay: values.delay,
+        rate: values.rate,
+        loss: values.loss,
     }
 }
 
 // A link's turn by the values of its line: first the packet that leaves, then the packet that starts.
 //
 // A helper for the crate `advance`, and no entry point: the rings have been tested there (9).
+#[tactic(auto, unfolding(crate::specs::Turns::link_acted))]
 pub fn link_acts(
     values: LinkValues,
     line: Line,
@@ -201,24 +162,20 @@ pub fn link_acts(
     ensures { result ≡ link_acted values line clock front first }
 {
     let d = link::try_deliver(line, clock, front, values.loss);
-    let left = d.left;
-    let on_line = d.line.on_line;
-    let at = on_line.end();
+    let at = d.line.on_line.end();
     let delay = TimeSpan(values.delay);
     let rate = InformationRate(values.rate);
     let t = link::try_transmit(d.line, clock, first, delay, rate);
-    let begun = t.begun;
-    let line = t.line;
     LinkActed {
         number: t.number,
-        left,
-        begun,
+        left: d.left,
+        begun: t.begun,
         at,
-        line,
+        line: t.line,
     }
 }
 
-// What a place of the line holds then.
+// What a place of the line holds then, made anew in each case, since `unwrap_or` copies first.
 pub fn on_line_at(begun: Option<Transit>, old: Transit) -> Transit
     ensures { result ≡ on_line_at begun old }
 {
@@ -233,19 +190,9 @@ pub fn on_line_at(begun: Option<Transit>, old: Transit) -> Transit
 pub fn pass_on(network: RemyNetwork, l: usize, left: Left) -> Option<Packet>
     ensures { result ≡ passed_on network l left }
 {
-    let back = network.back;
     match left {
-        Left::Nobody => None,
-        Left::Lost(_) => None,
-        Left::Out(packet) => {
-            if l != 0 {
-                return None;
-            }
-            match back {
-                None => None,
-                Some(_) => Some(packet),
-            }
-        }
+        Left::Out(packet) if l == 0 && has_back(network.back) => Some(packet),
+        _ => None,
     }
 }
 
@@ -253,11 +200,15 @@ pub fn pass_on(network: RemyNetwork, l: usize, left: Left) -> Option<Packet>
 fn lost_mark(l: usize) -> Mark
     ensures { result ≡ lost_mark l }
 {
-    if l == 0 { Mark::Lost } else { Mark::LostBack }
+    match l {
+        0 => Mark::Lost,
+        _ => Mark::LostBack,
+    }
 }
 
 // The packet that left line l comes to its sender, if it was not lost; a counted one goes into the
 // meter, with the bits of the sender's packets.
+#[tactic(auto, unfolding(crate::specs::Turns::heard_by))]
 pub fn hear(
     policy: Policy,
     bits: u64,
@@ -269,82 +220,55 @@ pub fn hear(
 ) -> Hearing
     ensures { result ≡ heard_by policy bits clock l left sender meter }
 {
-    match left {
-        Left::Nobody => {
-            let sender = sender_anew(sender);
-            let meter = meter_anew(meter);
-            Hearing {
-                heard: false,
-                mark: Mark::None,
-                sender,
-                meter,
-            }
+    let Left::Out(p) = left else {
+        let mark = match left {
+            Left::Lost(_) => lost_mark(l),
+            _ => Mark::None,
+        };
+        return Hearing {
+            heard: false,
+            mark,
+            sender: sender_anew(sender),
+            meter: meter_anew(meter),
+        };
+    };
+    let r = sender.receive_packet(policy, p);
+    let (mark, meter) = match r.heard {
+        Heard::Ignored => (Mark::Ignored, meter_anew(meter)),
+        Heard::Old => (Mark::Old, meter_anew(meter)),
+        Heard::Counted => {
+            let reception = Reception {
+                data: Information(bits),
+                rtt: clock - p.sent_time,
+            };
+            let m = record_lending(meter, reception, clock);
+            (Mark::Counted, meter_anew(m.meter))
         }
-        Left::Lost(_) => {
-            let mark = lost_mark(l);
-            let sender = sender_anew(sender);
-            let meter = meter_anew(meter);
-            Hearing {
-                heard: false,
-                mark,
-                sender,
-                meter,
-            }
-        }
-        Left::Out(p) => {
-            let r = sender.receive_packet(policy, p);
-            let heard = r.heard;
-            let received = r.sender;
-            let sender = sender_anew(received);
-            match heard {
-                Heard::Ignored => {
-                    let meter = meter_anew(meter);
-                    Hearing {
-                        heard: true,
-                        mark: Mark::Ignored,
-                        sender,
-                        meter,
-                    }
-                }
-                Heard::Old => {
-                    let meter = meter_anew(meter);
-                    Hearing {
-                        heard: true,
-                        mark: Mark::Old,
-                        sender,
-                        meter,
-                    }
-                }
-                Heard::Counted => {
-                    let rtt = clock.sub(p.sent_time);
-                    let data = Information(bits);
-                    let m = record_lending(meter, Reception { data, rtt }, clock);
-                    let counted = m.meter;
-                    let meter = meter_anew(counted);
-                    Hearing {
-                        heard: true,
-                        mark: Mark::Counted,
-                        sender,
-                        meter,
-                    }
-                }
-            }
-        }
+    };
+    Hearing {
+        heard: true,
+        mark,
+        sender: sender_anew(r.sender),
+        meter,
     }
 }
 
 // The record of a link's turn, the link being so many a part.
-pub fn link_note(clock: Time, part: usize, left: Left, begun: Option<Transit>, mark: Mark) -> TickRecord
+pub fn link_note(
+    clock: Time,
+    part: usize,
+    left: Left,
+    begun: Option<Transit>,
+    mark: Mark,
+) -> TickRecord
     ensures { result ≡ link_note clock part left begun mark }
 {
-    let packet = left_name(left);
-    let started = begun_name(begun);
     TickRecord {
         time: clock,
         part,
         mark,
-        packet,
-        started,
+        packet: left_name(left),
+        started: begun_name(begun),
     }
 }
 
@@ -353,63 +277,50 @@ fn left_name(left: Left) -> Option<(u32, u32)>
 {
     match left {
         Left::Nobody => None,
-        Left::Lost(p) => Some((p.sender, p.seq)),
-        Left::Out(p) => Some((p.sender, p.seq)),
+        Left::Lost(p) | Left::Out(p) => Some((p.sender, p.seq)),
     }
 }
 
 fn begun_name(begun: Option<Transit>) -> Option<(u32, u32)>
     ensures { result ≡ begun_name begun }
 {
-    match begun {
-        None => None,
-        Some(x) => Some((x.packet.sender, x.packet.seq)),
-    }
+    begun.map(|x| (x.packet.sender, x.packet.seq))
 }
 
 // A sender's turn: a timer equal to the clock goes first and alone; else one packet.
 //
 // A helper for the crate `advance`, and no entry point: the next part has been tested there (9).
+#[tactic(auto, unfolding(crate::specs::Turns::sender_acted))]
 pub fn sender_acts(network: RemyNetwork, clock: Time, sender: LossySender, i: usize) -> SenderActed
     requires { i < 16 }
     ensures { result ≡ sender_acted network clock sender i }
 {
-    let state = sender.state;
-    let SenderState::Enabled(enabled) = state else {
+    let SenderState::Enabled(enabled) = sender.state else {
         return SenderActed {
             number: 9,
             sending: None,
             sender,
         };
     };
-    let policy = network.policy;
-    let sent = sender.packets_sent;
-    let rng = sender.rng;
     if enabled.timer_due(clock) {
-        let after = enabled.tick_timer(policy, clock);
-        let sender = LossySender {
-            packets_sent: sent,
-            state: SenderState::Enabled(after),
-            rng,
-        };
         return SenderActed {
             number: 0,
             sending: None,
-            sender,
+            sender: LossySender {
+                state: SenderState::Enabled(enabled.tick_timer(network.policy, clock)),
+                ..sender
+            },
         };
     }
-    let t = enabled.tick_send(sent, policy, clock, i as u32);
-    let after = t.enabled;
-    let packet = t.packet;
-    let sender = LossySender {
-        packets_sent: t.packets_sent,
-        state: SenderState::Enabled(after),
-        rng,
-    };
+    let t = enabled.tick_send(sender.packets_sent, network.policy, clock, i as u32);
     SenderActed {
         number: t.number,
-        sending: Some(packet),
-        sender,
+        sending: Some(t.packet),
+        sender: LossySender {
+            packets_sent: t.packets_sent,
+            state: SenderState::Enabled(t.enabled),
+            ..sender
+        },
     }
 }
 
@@ -417,28 +328,31 @@ pub fn sender_acts(network: RemyNetwork, clock: Time, sender: LossySender, i: us
 fn arrival_mark(l: usize, admitted: bool) -> Mark
     ensures { result ≡ arrival_mark l admitted }
 {
-    if l == 0 {
-        if admitted {
-            return Mark::Sent;
-        }
-        return Mark::Full;
+    match (l, admitted) {
+        (0, true) => Mark::Sent,
+        (0, false) => Mark::Full,
+        (_, true) => Mark::Passed,
+        (_, false) => Mark::FullBack,
     }
-    if admitted {
-        return Mark::Passed;
-    }
-    Mark::FullBack
 }
 
 // The packet that was sent, or passed on, arrives at the link of line l, which has so large a limit.
 //
 // A helper for the crate `advance`, and no entry point: the rings and the waiting bits have been
 // tested there (9).
-pub fn arrive(l: usize, limit: Option<u64>, bits: u64, line: Line, sending: Option<Packet>) -> Arriving
+#[tactic(auto, unfolding(crate::specs::Turns::arrived_at))]
+pub fn arrive(
+    l: usize,
+    limit: Option<u64>,
+    bits: u64,
+    line: Line,
+    sending: Option<Packet>,
+) -> Arriving
     requires { (line.waiting.start < 512) × (line.waiting.count ≤ 512) × (line.buffer_contains.0 + bits < 2 ^ 64) }
     ensures { result ≡ arrived_at l limit bits line sending }
 {
     let at = line.waiting.end();
-    let Some(_) = sending else {
+    if sending.is_none() {
         return Arriving {
             number: 0,
             arrives: false,
@@ -447,17 +361,15 @@ pub fn arrive(l: usize, limit: Option<u64>, bits: u64, line: Line, sending: Opti
             mark: Mark::Timer,
             line,
         };
-    };
+    }
     let a = link::receive(limit, line, Information(bits));
-    let line = a.line;
-    let mark = arrival_mark(l, a.admitted);
     Arriving {
         number: a.number,
         arrives: true,
         admitted: a.admitted,
         at,
-        mark,
-        line,
+        mark: arrival_mark(l, a.admitted),
+        line: a.line,
     }
 }
 
@@ -465,16 +377,12 @@ pub fn arrive(l: usize, limit: Option<u64>, bits: u64, line: Line, sending: Opti
 pub fn waiting_at(admitted: bool, bits: u64, sending: Option<Packet>, old: Waiting) -> Waiting
     ensures { result ≡ waiting_at admitted bits sending old }
 {
-    if !admitted {
-        return waiting_anew(old);
-    }
     match sending {
-        None => waiting_anew(old),
-        Some(sent) => {
-            let packet = packet_anew(sent);
-            let bits = Information(bits);
-            Waiting { packet, bits }
-        }
+        Some(packet) if admitted => Waiting {
+            packet: packet_anew(packet),
+            bits: Information(bits),
+        },
+        _ => waiting_anew(old),
     }
 }
 
@@ -485,22 +393,12 @@ pub fn sender_note(clock: Time, i: usize, sending: Option<Packet>, mark: Mark) -
     requires { i < 16 }
     ensures { result ≡ sender_note clock i sending mark }
 {
-    let part = 1 + 2 * i;
-    match sending {
-        None => TickRecord {
-            time: clock,
-            part,
-            mark,
-            packet: None,
-            started: None,
-        },
-        Some(p) => TickRecord {
-            time: clock,
-            part,
-            mark,
-            packet: Some((p.sender, p.seq)),
-            started: None,
-        },
+    TickRecord {
+        time: clock,
+        part: 1 + 2 * i,
+        mark,
+        packet: sending.map(|p| (p.sender, p.seq)),
+        started: None,
     }
 }
 
@@ -522,23 +420,12 @@ pub fn toggler_note(clock: Time, i: usize, on: bool) -> TickRecord
     requires { i < 16 }
     ensures { result ≡ toggler_note clock i on }
 {
-    let part = 2 + 2 * i;
-    if on {
-        TickRecord {
-            time: clock,
-            part,
-            mark: Mark::Enabled,
-            packet: None,
-            started: None,
-        }
-    } else {
-        TickRecord {
-            time: clock,
-            part,
-            mark: Mark::Disabled,
-            packet: None,
-            started: None,
-        }
+    TickRecord {
+        time: clock,
+        part: 2 + 2 * i,
+        mark: if on { Mark::Enabled } else { Mark::Disabled },
+        packet: None,
+        started: None,
     }
 }
 
@@ -547,7 +434,7 @@ pub fn empty_record() -> TickRecord
     ensures { result ≡ empty_record }
 {
     TickRecord {
-        time: Time(TimeSpan(0.0)),
+        time: Time::SIM_START,
         part: 0,
         mark: Mark::None,
         packet: None,
@@ -559,8 +446,10 @@ pub fn empty_record() -> TickRecord
 pub fn noted(note: TickRecord, first: Line) -> Noted
     ensures { result ≡ noted_with note first }
 {
-    let waiting = first.buffer_contains;
-    Noted { note, waiting }
+    Noted {
+        note,
+        waiting: first.buffer_contains,
+    }
 }
 
 // The place of the record of the tick after so many: the places are used over again.

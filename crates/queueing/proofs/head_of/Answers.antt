@@ -1,11 +1,8 @@
--- Each return rewrites by the tests and the cases that led there. Assumes nothing.
+-- The literals are opened. Assumes nothing.
+use Rattle.std.proofs.Common.{rules}
 use lib.Ieee.{of_bits}
 use Rattle.queueing.proofs.head_of.Goals as goal
 
-pub returns-in-None : goal.returns-in-None
+pub returns : goal.returns
 unfolding of_bits
-returns-in-None c = rw c.in-None.is
-
-pub returns-in-Some : goal.returns-in-Some
-unfolding of_bits
-returns-in-Some c = rw c.in-Some.is
+returns c = search rules

@@ -1,37 +1,17 @@
--- The invariant: the packets of the first i senders have bits in the range. The measure is what is left. Assumes nothing.
-use mathlib.Core.Path.{refl}
-use mathlib.Core.Bool.{true}
+-- `all` tests the packets' bits of the senders. Assumes nothing.
+use Rattle.std.proofs.Common.{rules, ℕ}
+use Rattle.std.proofs.lemmas.Iterator.{cases_from_all, YieldsList-from_range}
+use mathlib.Core.Path.{◌≡◌, refl}
+use mathlib.Core.Bool.{Bool, true, false}
 use native.Mathlib.Omega.{arith}
-use borrow.Author.Tests.{le-leb, lt-leb}
-use Rattle.ranges.proofs.UpTo.{up_goes, up_stops, up_done}
-use Rattle.ranges.proofs.sizes_fit.Invariants.{fits}
+use borrow.Author.Tests.{le-leb}
+use lib.ListN.{get_or}
+use Rattle.remy.specs.Network.{between}
+use Rattle.ranges.proofs.UpTo.{up_to-all}
 use Rattle.ranges.proofs.sizes_fit.Goals as goal
 
-pub returns-then-senders-gt16 : goal.returns-then-senders-gt16
-returns-then-senders-gt16 c = rw (lt-leb c.args.senders 16 (omega arith))
-
-pub loop-i-init : goal.loop-i-init
-loop-i-init c = (omega arith, refl)
-
-pub returns-then-size-lt1 : goal.returns-then-size-lt1
-returns-then-size-lt1 c =
-    rw (le-leb c.args.senders 16 (omega arith))
-    (up_stops (fits c.args.bits) _ _ c.loop-i-test.true (rw (lt-leb _ _ c.if-size-lt1.true)))
-
-pub returns-then-size-gt16777216 : goal.returns-then-size-gt16777216
-returns-then-size-gt16777216 c =
-    rw (le-leb c.args.senders 16 (omega arith))
-    (up_stops (fits c.args.bits) _ _ c.loop-i-test.true
-    (rw (le-leb _ _ c.if-size-lt1.false, lt-leb _ _ c.if-size-gt16777216.true)))
-
-pub loop-i-preserved : goal.loop-i-preserved
-loop-i-preserved c =
-    let L = c.loop-i in (
-      omega (arith, c.loop-i-test.true),
-      up_goes (fits c.args.bits) L.i L.invariant.1 (rw (le-leb _ _ c.if-size-lt1.false, le-leb _ _ c.if-size-gt16777216.false)),
-    )
-
-pub returns : goal.returns
-returns c =
-    let L = c.loop-i in
-    rw (le-leb c.args.senders 16 (omega arith)) (up_done _ _ L.i L.invariant.1 L.invariant.0 c.loop-i-test.false)
+pub returns-then-senders-le16 : goal.returns-then-senders-le16
+returns-then-senders-le16 c =
+    let fit : ℕ → Bool = λ i. between 1 16777216 (get_or c.args.bits i 0) in
+    rw (le-leb c.args.senders 16 (omega arith)) (up_to-all fit _ _ (cases_from_all _ _ _ (λ i. fit i ≡ true) (λ i. fit i ≡ false) c.all.ensures.ran
+    (YieldsList-from_range 0 c.args.senders c.args.senders refl (omega arith)) (λ x q k. search rules) (λ x q k. search rules)))

@@ -1,9 +1,8 @@
--- The callees' results, put together. Assumes nothing.
+-- The rings are in range after a packet left. Assumes nothing.
 use mathlib.Core.Path.{sym, subst}
 use Prim.Native.Nat.{◌<◌}
 use Rattle.link.specs.declared.link.Delivered.{Delivered}
 use Rattle.turns.proofs.InRange.{Ringed, on-line_range, waiting_range}
-use Rattle.turns.specs.Turns.{link_acted}
 use Rattle.turns.proofs.link_acts.Goals as goal
 
 pub end-at-requires : goal.end-at-requires
@@ -13,12 +12,3 @@ end-at-requires c =
 pub try_transmit-t-requires : goal.try_transmit-t-requires
 try_transmit-t-requires c =
     subst (λ (d : Delivered). d.line.waiting.start < 512) (sym c.try_deliver-d.ensures) (waiting_range _ _ _ _ c.requires.0)
-
-pub returns : goal.returns
-unfolding link_acted
-returns c =
-    rw (
-      c.try_transmit-t.ensures,
-      c.end-at.ensures,
-      c.try_deliver-d.ensures,
-    )

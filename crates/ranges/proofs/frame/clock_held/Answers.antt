@@ -1,30 +1,9 @@
--- Each return rewrites by the test and the case that led there. Assumes nothing.
+-- The literals are opened. Assumes nothing.
+use Rattle.std.proofs.Common.{rules}
 use lib.Ieee.{of_bits}
 use Rattle.ranges.specs.Frame.{clock_held}
 use Rattle.ranges.proofs.frame.clock_held.Goals as goal
 
-pub returns-then-time_held : goal.returns-then-time_held
+pub returns-then-is_none : goal.returns-then-is_none
 unfolding clock_held of_bits
-returns-then-time_held c =
-    rw (
-      ← c.time_held.ensures,
-      c.if-time_held.true,
-    )
-
-pub returns-in-None : goal.returns-in-None
-unfolding clock_held of_bits
-returns-in-None c =
-    rw (
-      ← c.time_held.ensures,
-      c.if-time_held.false,
-      c.in-None.is,
-    )
-
-pub returns-in-Part : goal.returns-in-Part
-unfolding clock_held of_bits
-returns-in-Part c =
-    rw (
-      ← c.time_held.ensures,
-      c.if-time_held.false,
-      c.in-Part.is,
-    )
+returns-then-is_none c = search rules

@@ -1,8 +1,8 @@
--- The test is the definition. Assumes nothing.
-use mathlib.Core.Path.{refl}
+-- The literals are opened. Assumes nothing.
+use Rattle.std.proofs.Common.{rules}
 use lib.Ieee.{of_bits}
 use Rattle.ranges.proofs.frame.time_held.Goals as goal
 
 pub returns : goal.returns
 unfolding of_bits
-returns c = refl
+returns c = search rules

@@ -1,8 +1,0 @@
--- Each return rewrites by its test. Assumes nothing.
-use mathlib.Core.Path.{◌≡◌}
-use Prim.Native.Nat.{suc, ◌-◌}
-use native.Mathlib.Omega.{arith}
-use Rattle.queueing.proofs.link_part.Goals as goal
-
-pub returns : goal.returns
-returns c = let l = c.args.l in let later : l ≡ suc (l - 1) = omega (arith, c.if-l-eq0.false) in rw later

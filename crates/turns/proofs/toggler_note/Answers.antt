@@ -1,8 +1,0 @@
--- Each return rewrites by the tests and the cases that led there. Assumes nothing.
-use Rattle.turns.proofs.toggler_note.Goals as goal
-
-pub returns-then-on : goal.returns-then-on
-returns-then-on c = rw c.if-on.true
-
-pub returns-else-on : goal.returns-else-on
-returns-else-on c = rw c.if-on.false
