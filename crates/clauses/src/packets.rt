@@ -209,7 +209,7 @@ pub fn all_due_soon(
         let line = lines[l];
         let ring = line.on_line;
         let values = values_of(first, back, l);
-        let latest = clock.add(TimeSpan(values.delay));
+        let latest = clock + TimeSpan(values.delay);
         if !due_soon(on_line, l, ring, latest) {
             return false;
         }

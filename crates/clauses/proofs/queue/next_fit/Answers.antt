@@ -11,14 +11,14 @@ returns-in-None c =
       c.in-None.is,
     )
 
-pub returns-in-Part : goal.returns-in-Part
+pub returns-in-Some : goal.returns-in-Some
 unfolding next_test
-returns-in-Part c =
+returns-in-Some c =
     let a = c.args in
     let I = c.seat-i in
     let O = c.part_time-own in
     rw (
       c.same_time.ensures,
       part_seated _ _ _ _ a.senders a.togglers _ _ I.ensures.1 O.result O.ensures,
-      c.in-Part.is,
+      c.in-Some.is,
     )
