@@ -1,6 +1,6 @@
 -- The tests of a packet and of what holds one by what decides them, and the loops over the lines, over the senders and over the places of the queue. Assumes nothing.
 use Rattle.std.proofs.Common.{Option}
-use Prim.Native.Nat.{ℕ, ◌+◌, ◌*◌, ◌≤◌, ◌<◌}
+use Prim.Native.Nat.{ℕ, ◌+◌, ◌*◌, ◌<◌}
 use mathlib.Core.Path.{◌≡◌, ap, ◌∙◌}
 use mathlib.Core.Bool.{Bool, true, false, ◌&&◌}
 use mathlib.Core.List.{List}
@@ -64,11 +64,6 @@ module _ (waiting : List Waiting) (on_line : List Transit) (lines : List Line) w
           most = record { each = λ k h. let e = a.most.each k h in omega (arith, e) };
         })
 
-    pub counts_all : (count : ℕ) → l ≤ count → count ≤ l → count ≤ 2 → Counts 2048 (lines_of waiting on_line lines count) counts
-    counts_all count h g few =
-        let same : count ≡ l = omega arith in
-        rw same (record { each = c.each; most = record { each = λ k m. let e = c.most.each k m in omega (arith, e, same, few) } })
-
 -- ---- senders
 
 module _ (policy : Policy) (bits : ℕ → ℕ) (clock : Time) (under_way : ℕ → ℕ) (senders : List LossySender) (togglers : List Toggler) (meters : List AverageFlowMeter) where
@@ -90,9 +85,6 @@ module _ (of : ℕ → Option Time) (times : List Queued) where
       each : (k : ℕ) → k < l + 1 → Dec (k ≡ l) → (get_or (set times l x) k no_queued).time ≡ of k
       each k m (yes same) = rw (same, get_or-set_same times l x no_queued h) e
       each k m (no other) = rw (get_or-set_other times l k x no_queued other) (t.each k (omega arith))
-
-  pub times-all : (l count : ℕ) → LinkTimes of l times → count ≤ l → LinkTimes of count times
-  times-all l count t h = record { each = λ k m. t.each k (omega arith) }
 
 -- ---- places of the queue
 

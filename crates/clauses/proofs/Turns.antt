@@ -3,7 +3,7 @@ use Prim.Native.Nat.{ℕ, zero, suc, ◌+◌, ◌*◌, ◌-◌, ◌%◌, ◌≤�
 use mathlib.Core.Path.{◌≡◌, refl, sym, ap, ◌∙◌}
 use mathlib.Core.Bool.{Bool, true, false, ◌&&◌, cond}
 use mathlib.Core.List.{List, [], ◌∷◌, map}
-use native.Mathlib.Nat.{zero-add, add-zero, add_assoc}
+use native.Mathlib.Nat.{add-zero, add_assoc}
 use native.Mathlib.Omega.{arith}
 use lib.Dec.{eqb}
 use lib.ListN.{get_or}
@@ -46,6 +46,8 @@ module _ {A : Type 0} (f : A → Bool) (d : A) (slots : List A) (l start count i
 
   pub every-done : count ≤ i → true ≡ every f (rest d slots l start count i)
   every-done h = sym (ap (every f) (rest-none d slots l start count i h))
+
+pub ruleset members = (every_goes, every-stops, every-done)
 
 -- ---- a count of the packets of each of 16 senders, added to what was counted before; a packet of another sender is counted nowhere
 
@@ -102,6 +104,8 @@ added_both less more most first middle counts f g a b h = record {
   most = record { each = λ k m. let e = b.most.each k m in omega (arith, e, h) };
 }
 
+pub ruleset counting = (counted_none, counted_more, counted-all, added_both)
+
 -- ---- the sum of the bits that the members carry
 
 module _ (d : Waiting) (slots : List Waiting) (l start count : ℕ) where
@@ -109,9 +113,6 @@ module _ (d : Waiting) (slots : List Waiting) (l start count : ℕ) where
   pub record Summed (sum i : ℕ) : Type 0 where
     pub few : sum ≤ i * 16777216
     pub all : sum + total_bits (rest d slots l start count i) ≡ total_bits (items_from d slots l start count)
-
-  pub summed-none : Summed 0 0
-  summed-none = record { few = omega arith; all = zero-add _ ∙ ap total_bits (rest_all d slots l start count) }
 
   module _ (sum i : ℕ) (s : Summed sum i) where
     pub summed-one : i < count → (bits : ℕ) → (get_or slots (slot_of l ((start + i) % places)) d).bits.0 ≡ bits → bits ≤ 16777216 → Summed (sum + bits) (i + 1)
@@ -126,6 +127,8 @@ module _ (d : Waiting) (slots : List Waiting) (l start count : ℕ) where
 
     pub summed-all : count ≤ i → total_bits (items_from d slots l start count) ≡ sum
     summed-all h = sym s.all ∙ ap (λ (l : List Waiting). sum + total_bits l) (rest-none d slots l start count i h) ∙ add-zero sum
+
+pub ruleset sums = (summed-one, summed-all)
 
 -- ---- due times that do not fall
 
@@ -157,3 +160,5 @@ module _ (d : Transit) (slots : List Transit) (l start count i : ℕ) where
       short at zero k = refl
       short at (suc zero) k = refl
       short at (suc (suc n)) k = let no : ⊥ = omega arith in absurd no
+
+pub ruleset falls = (rising_goes, rising-stops, rising-done)

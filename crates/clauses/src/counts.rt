@@ -43,6 +43,7 @@ fn count_packet(counts: &mut [usize; 16], packet: Packet)
 //
 // A helper, and no entry point: the caller shows that the counts before are of lines of 1,024 packets
 // at most, and that the rings' starts and counts are in their ranges.
+#[tactic(auto, using(crate::proofs::Turns::counting), unfolding(crate::specs::Tests::line_of))]
 fn line_counts(
     first: [usize; 16],
     waiting: [Waiting; 1024],

@@ -32,6 +32,7 @@ fn packet_fit(senders: &[LossySender; 16], n: u32, clock: Time, packet: Packet) 
 
 // Whether each packet that waits for line l is fit and carries its sender's bits, and the waiting bits
 // are the sum of what they carry. The sum cannot wrap: what is added is a sender's bits.
+#[tactic(auto, using(crate::proofs::Turns::members, crate::proofs::Turns::sums, crate::proofs::Members::packet_known), unfolding(crate::specs::Tests::waiting_test, crate::specs::Tests::waits_test))]
 fn waiting_fit(
     senders: [LossySender; 16],
     sizes: [u64; 16],
@@ -63,6 +64,7 @@ fn waiting_fit(
 
 // Whether each packet on line l is fit, and no due time is below the one before it. Two walks in one
 // function, as a function that reads packets by place copies all that there are.
+#[tactic(auto, using(crate::proofs::Turns::members, crate::proofs::Turns::falls), unfolding(crate::specs::Tests::on_line_test, crate::specs::Tests::transit_test, crate::specs::Tests::due_test))]
 fn on_line_fit(
     senders: [LossySender; 16],
     n: u32,
@@ -148,6 +150,7 @@ pub fn packets_fit(
 }
 
 // Whether no packet on line l is due later than a time.
+#[tactic(auto, using(crate::proofs::Turns::members), unfolding(crate::specs::Tests::soon_on_test))]
 fn due_soon(on_line: [Transit; 1024], l: usize, ring: Ring, latest: Time) -> bool
     requires { (l < 2) × (ring.start < 512) × (ring.count ≤ 512) }
     ensures { result ≡ soon_on_test latest on_line l ring }

@@ -34,14 +34,15 @@ impl Parts<'_> {
         let i = (k - 1) / 2;
         if i < self.n as usize {
             if k % 2 == 1 {
-                return self.senders[i].next_tick(self.clock);
+                self.senders[i].next_tick(self.clock)
+            } else {
+                Some(self.togglers[i].next_toggle)
             }
-            return Some(self.togglers[i].next_toggle);
+        } else if self.back && i == self.n as usize && k % 2 == 0 {
+            self.links[1].time
+        } else {
+            None
         }
-        if self.back && i == self.n as usize && k % 2 == 0 {
-            return self.links[1].time;
-        }
-        None
     }
 }
 
@@ -68,7 +69,7 @@ fn place_fit(
 }
 
 // Whether nothing is queued.
-#[tactic(auto, using(ranges::proofs::UpTo::up_goes, ranges::proofs::UpTo::up_stops, ranges::proofs::UpTo::up_done), unfolding(crate::specs::Tests::empty_test))]
+#[tactic(auto, using(ranges::proofs::UpTo::up_goes), unfolding(crate::specs::Tests::empty_test))]
 fn is_empty(queue: [Queued; 35]) -> bool
     ensures { result ≡ empty_test 35 queue }
 {
@@ -93,7 +94,7 @@ fn next_fit(parts: &Parts, queue: [Queued; 35], next: Option<usize>) -> bool
 }
 
 // Whether each place of the queue is fit.
-#[tactic(auto, using(ranges::proofs::UpTo::up_goes, ranges::proofs::UpTo::up_stops, ranges::proofs::UpTo::up_done), unfolding(crate::specs::Tests::places_test))]
+#[tactic(auto, using(ranges::proofs::UpTo::up_goes), unfolding(crate::specs::Tests::places_test))]
 fn places_fit(parts: &Parts, queue: [Queued; 35], next: Option<usize>) -> bool
     requires { parts.now.n ≤ 16 }
     ensures { result ≡ places_test parts.now.n parts.now.back parts.now.links parts.now.clock parts.now.senders.now parts.now.togglers.now 35 queue next }

@@ -131,7 +131,7 @@ fn sender_fit(
 // the bits of sender i's packets, and of the counts how many of them wait or are on a line.
 //
 // A helper for `fitness`, and no entry point: `is_fit` has tested the network and counted over rings of 512 places.
-#[tactic(auto, using(ranges::proofs::UpTo::up_goes, ranges::proofs::UpTo::up_stops, ranges::proofs::UpTo::up_done), unfolding(crate::specs::Tests::senders_test))]
+#[tactic(auto, using(ranges::proofs::UpTo::up_goes, ranges::proofs::UpTo::up_done), unfolding(crate::specs::Tests::senders_test))]
 pub fn senders_fit(
     policy: Policy,
     sizes: [u64; 16],
