@@ -26,9 +26,9 @@ pub struct LinesFound {
 
 // Counts one more packet, at its sender's; that of a sender from 16 on is counted nowhere.
 //
-// A helper, and no entry point: the caller shows that the counts are of lines of 1,024 packets at most.
+// A helper, and no entry point: the caller shows that the counts are of two lines of 1,024 packets at most.
 fn count_packet(counts: &mut [usize; 16], packet: Packet)
-    requires { AtMost 4096 16 counts.old }
+    requires { AtMost 2048 16 counts.old }
     ensures { OneMore packet.sender counts.old counts.new }
 {
     let k = packet.sender as usize;
