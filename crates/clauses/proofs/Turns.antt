@@ -1,23 +1,20 @@
 -- One turn of each loop over the members of a ring in order, over plain variables. Assumes nothing.
 use Prim.Native.Nat.{ℕ, zero, suc, ◌+◌, ◌*◌, ◌-◌, ◌%◌, ◌≤◌, ◌<◌}
-use mathlib.Core.Path.{◌≡◌, refl, sym, ap, subst, ◌∙◌}
+use mathlib.Core.Path.{◌≡◌, refl, sym, ap, ◌∙◌}
 use mathlib.Core.Bool.{Bool, true, false, ◌&&◌, cond}
 use mathlib.Core.List.{List, [], ◌∷◌, map}
-use native.Mathlib.Decide.{ℕ_discrete}
-use native.Mathlib.Nat.{zero-add, add-zero, add_assoc}
+use native.Mathlib.Nat.{add-zero, add_assoc}
 use native.Mathlib.Omega.{arith}
 use lib.Dec.{eqb}
-use lib.ListN.{length, get_or, set, length-set}
-use lib.Seq.{get_or-set_same, get_or-set_other}
+use lib.ListN.{get_or}
 use lib.Ieee.{le}
-use borrow.Author.Tests.{eq-eqb, ne_eqb}
 use Rattle.link.specs.declared.packet.Packet.{Packet}
 use Rattle.link.specs.declared.packet.Waiting.{Waiting}
 use Rattle.link.specs.declared.packet.Transit.{Transit}
 use Rattle.link.specs.Ring.{places, slot_of, items_from}
 use Rattle.remy.specs.State.{total_bits}
 use Rattle.remy.specs.Fit.{every, count_of, rising}
-use Rattle.clauses.specs.Tests.{AtMost, Added}
+use Rattle.clauses.specs.Tests.{AtMost, Added, OneMore}
 
 -- ---- the members of a ring from the i-th on
 
@@ -50,6 +47,8 @@ module _ {A : Type 0} (f : A → Bool) (d : A) (slots : List A) (l start count i
   pub every-done : count ≤ i → true ≡ every f (rest d slots l start count i)
   every-done h = sym (ap (every f) (rest-none d slots l start count i h))
 
+pub ruleset members = (every_goes, every-stops, every-done)
+
 -- ---- a count of the packets of each of 16 senders, added to what was counted before; a packet of another sender is counted nowhere
 
 module _ {A : Type 0} (packet : A → Packet) (d : A) (slots : List A) (l start count : ℕ) where
@@ -68,59 +67,25 @@ module _ {A : Type 0} (packet : A → Packet) (d : A) (slots : List A) (l start 
 
   -- after the first i members: what is counted and what is in the rest are all, and what was counted before
   pub record Counted (most : ℕ) (first counts : List ℕ) (i : ℕ) : Type 0 where
-    pub full : length counts ≡ 16
     pub few : (k : ℕ) → k < 16 → get_or counts k 0 ≤ most + i
     pub all : (k : ℕ) → k < 16 → get_or counts k 0 + later k i ≡ get_or first k 0 + all_of k
 
-  pub counted_none : (most : ℕ) (first : List ℕ) → length first ≡ 16 → AtMost most 16 first → Counted most first first 0
-  counted_none most first full few = record {
-    full = full;
+  pub counted_none : (most : ℕ) (first : List ℕ) → AtMost most 16 first → Counted most first first 0
+  counted_none most first few = record {
     few = λ k h. let e = few.each k h in omega (arith, e);
     all = λ k h. ap (λ (xs : List A). get_or first k 0 + count_of k (map packet xs)) (rest_all d slots l start count);
   }
 
-  module _ (most : ℕ) (first counts : List ℕ) (i : ℕ) (c : Counted most first counts i) (h : i < count) where
-    pub counted-one : owner i < 16 → Counted most first (set counts (owner i) (get_or counts (owner i) 0 + 1)) (i + 1)
-    counted-one g = record {
-      full = length-set counts (owner i) _ ∙ c.full;
-      few = λ k m. few k m (ℕ_discrete k (owner i));
-      all = λ k m. all k m (ℕ_discrete k (owner i));
-    }
-      where
-        more : List ℕ
-        more = set counts (owner i) (get_or counts (owner i) 0 + 1)
+  one-most : (b : Bool) → cond b 1 0 ≤ 1
+  one-most true = omega arith
+  one-most false = omega arith
 
-        stored : get_or (set counts (owner i) (get_or counts (owner i) 0 + 1)) (owner i) 0 ≡ get_or counts (owner i) 0 + 1
-        stored = let full = c.full in get_or-set_same counts (owner i) _ 0 (omega (arith, full))
-
-        few : (k : ℕ) → k < 16 → Dec (k ≡ owner i) → get_or (set counts (owner i) (get_or counts (owner i) 0 + 1)) k 0 ≤ most + (i + 1)
-        few k m (yes same) = let e = c.few (owner i) g in rw (same, stored) (omega (arith, e))
-        few k m (no other) = let e = c.few k m in rw (get_or-set_other counts (owner i) k _ 0 other) (omega (arith, e))
-
-        all : (k : ℕ) → k < 16 → Dec (k ≡ owner i)
-            → get_or (set counts (owner i) (get_or counts (owner i) 0 + 1)) k 0 + later k (i + 1) ≡ get_or first k 0 + all_of k
-        all k m (yes same) =
-            let e = c.all k m in
-            let n : later k i ≡ 1 + later k (i + 1) = later-next k i h ∙ ap (λ (b : Bool). cond b 1 0 + later k (i + 1)) (eq-eqb (owner i) k (sym same)) in
-            let t : get_or (set counts (owner i) (get_or counts (owner i) 0 + 1)) k 0 ≡ get_or counts k 0 + 1 = subst (λ (j : ℕ). get_or (set counts (owner i) (get_or counts (owner i) 0 + 1)) j 0 ≡ get_or counts j 0 + 1) (sym same) stored in
-            omega (arith, e, n, t)
-        all k m (no other) =
-            let e = c.all k m in
-            let n : later k i ≡ 0 + later k (i + 1) =
-            later-next k i h ∙ ap (λ (b : Bool). cond b 1 0 + later k (i + 1)) (ne_eqb (owner i) k (λ (q : owner i ≡ k). other (sym q))) in
-            let t = get_or-set_other counts (owner i) k (get_or counts (owner i) 0 + 1) 0 other in
-            omega (arith, e, n, t)
-
-    pub counted-other : 16 ≤ owner i → Counted most first counts (i + 1)
-    counted-other g = record {
-      full = c.full;
-      few = λ k m. let e = c.few k m in omega (arith, e);
-      all = λ k m.
-          let e = c.all k m in
-          let n : later k i ≡ 0 + later k (i + 1) =
-          later-next k i h ∙ ap (λ (b : Bool). cond b 1 0 + later k (i + 1)) (ne_eqb (owner i) k (λ (q : owner i ≡ k). omega (arith, q, g, m))) in
-          omega (arith, e, n);
-    }
+  pub counted_more : (most : ℕ) (first counts : List ℕ) (i : ℕ) → Counted most first counts i → i < count → (more : List ℕ) → OneMore (owner i) counts more
+      → Counted most first more (i + 1)
+  counted_more most first counts i c h more m = record {
+    few = λ k b. let e = c.few k b in let d = m.each k b in let o = one-most (eqb (owner i) k) in omega (arith, e, d, o);
+    all = λ k b. let e = c.all k b in let d = m.each k b in let n = later-next k i h in omega (arith, e, d, n);
+  }
 
   pub counted-all : (most : ℕ) (first counts : List ℕ) (i : ℕ) → Counted most first counts i → i ≤ 512 → count ≤ i → Added (most + 512) first all_of counts
   counted-all most first counts i c small h = record {
@@ -139,6 +104,8 @@ added_both less more most first middle counts f g a b h = record {
   most = record { each = λ k m. let e = b.most.each k m in omega (arith, e, h) };
 }
 
+pub ruleset counting = (counted_none, counted_more, counted-all, added_both)
+
 -- ---- the sum of the bits that the members carry
 
 module _ (d : Waiting) (slots : List Waiting) (l start count : ℕ) where
@@ -146,9 +113,6 @@ module _ (d : Waiting) (slots : List Waiting) (l start count : ℕ) where
   pub record Summed (sum i : ℕ) : Type 0 where
     pub few : sum ≤ i * 16777216
     pub all : sum + total_bits (rest d slots l start count i) ≡ total_bits (items_from d slots l start count)
-
-  pub summed-none : Summed 0 0
-  summed-none = record { few = omega arith; all = zero-add _ ∙ ap total_bits (rest_all d slots l start count) }
 
   module _ (sum i : ℕ) (s : Summed sum i) where
     pub summed-one : i < count → (bits : ℕ) → (get_or slots (slot_of l ((start + i) % places)) d).bits.0 ≡ bits → bits ≤ 16777216 → Summed (sum + bits) (i + 1)
@@ -164,25 +128,30 @@ module _ (d : Waiting) (slots : List Waiting) (l start count : ℕ) where
     pub summed-all : count ≤ i → total_bits (items_from d slots l start count) ≡ sum
     summed-all h = sym s.all ∙ ap (λ (l : List Waiting). sum + total_bits l) (rest-none d slots l start count i h) ∙ add-zero sum
 
+pub ruleset sums = (summed-one, summed-all)
+
 -- ---- due times that do not fall
 
 module _ (d : Transit) (slots : List Transit) (l start count i : ℕ) where
-  two : i + 1 < count
+  -- the first two of the rest
+  two : (j : ℕ) → j ≡ i + 1 → j < count
       → rising (rest d slots l start count i)
-      ≡ (le (get_or slots (slot_of l ((start + i) % places)) d).due.0.0 (get_or slots (slot_of l ((start + i + 1) % places)) d).due.0.0 && rising (rest d slots l start count (i + 1)))
-  two h =
-      let e : count - i ≡ suc (suc (count - (i + 1 + 1))) = omega arith in
-      let g : count - (i + 1) ≡ suc (count - (i + 1 + 1)) = omega arith in
-      let f : start + (i + 1) ≡ start + i + 1 = omega arith in
+      ≡ (le (get_or slots (slot_of l ((start + i) % places)) d).due.0.0 (get_or slots (slot_of l ((start + j) % places)) d).due.0.0 && rising (rest d slots l start count j))
+  two j at h =
+      let e : count - i ≡ suc (suc (count - (j + 1))) = omega arith in
+      let g : count - j ≡ suc (count - (j + 1)) = omega arith in
+      let f : start + j ≡ start + i + 1 = omega arith in
       rw (e, g, f)
 
-  pub rising_goes : i + 1 < count → le (get_or slots (slot_of l ((start + i) % places)) d).due.0.0 (get_or slots (slot_of l ((start + i + 1) % places)) d).due.0.0 ≡ true
-      → rising (rest d slots l start count (i + 1)) ≡ rising (rest d slots l start count i)
-  rising_goes h e = sym (two h ∙ rw e)
+  pub rising_goes : (j : ℕ) → j ≡ i + 1 → j < count
+      → le (get_or slots (slot_of l ((start + i) % places)) d).due.0.0 (get_or slots (slot_of l ((start + j) % places)) d).due.0.0 ≡ true
+      → rising (rest d slots l start count (j + 1 - 1)) ≡ rising (rest d slots l start count i)
+  rising_goes j at h e = let same : j + 1 - 1 ≡ j = omega arith in ap (λ (k : ℕ). rising (rest d slots l start count k)) same ∙ sym (two j at h ∙ rw e)
 
-  pub rising-stops : i + 1 < count → le (get_or slots (slot_of l ((start + i) % places)) d).due.0.0 (get_or slots (slot_of l ((start + i + 1) % places)) d).due.0.0 ≡ false
+  pub rising-stops : (j : ℕ) → j ≡ i + 1 → j < count
+      → le (get_or slots (slot_of l ((start + i) % places)) d).due.0.0 (get_or slots (slot_of l ((start + j) % places)) d).due.0.0 ≡ false
       → false ≡ rising (rest d slots l start count i)
-  rising-stops h e = sym (two h ∙ rw e)
+  rising-stops j at h e = sym (two j at h ∙ rw e)
 
   pub rising-done : count ≤ i + 1 → true ≡ rising (rest d slots l start count i)
   rising-done h = short (start + i) (count - i) (omega arith)
@@ -191,3 +160,5 @@ module _ (d : Transit) (slots : List Transit) (l start count i : ℕ) where
       short at zero k = refl
       short at (suc zero) k = refl
       short at (suc (suc n)) k = let no : ⊥ = omega arith in absurd no
+
+pub ruleset falls = (rising_goes, rising-stops, rising-done)

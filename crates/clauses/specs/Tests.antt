@@ -1,7 +1,7 @@
 -- The clauses of `fit` (the crate `remy`, specs/Fit.antt) by the parts of the state that they read: a test for each packet, one for each sender with its toggler
 -- and meter, and one for each place of the queue. Definitions only. Their conjunction with `frame_test` (the crate `ranges`) is `fit` (`Groups` in the proofs of
 -- `fitness`), which the contract of `is_fit` cites; the contracts of its parts cite these.
-use Rattle.std.specs.Prelude.{ℕ, ◌+◌, ◌*◌, ◌≤◌, ◌<◌, ◌≡◌, Bool, true, not, ◌&&◌, ◌||◌, List, map, leb, ltb, eqb, get_or, Option, Some, None}
+use Rattle.std.specs.Prelude.{ℕ, ◌+◌, ◌*◌, ◌≤◌, ◌<◌, ◌≡◌, Bool, true, not, cond, ◌&&◌, ◌||◌, List, map, leb, ltb, eqb, get_or, Option, Some, None}
 use Rattle.std.specs.Bool.{beq}
 use Rattle.std.specs.Float.Ieee.{le}
 use Rattle.quantities.specs.declared.time.Time.{Time}
@@ -100,6 +100,10 @@ pub record Counts (bound : ℕ) (of : ℕ → ℕ) (counts : List ℕ) : Type 0 
   pub each : (i : ℕ) → i < 16 → get_or counts i 0 ≡ of i
   pub most : AtMost bound 16 counts
 
+-- counts of the 16 senders, with one more for a packet of sender i
+pub record OneMore (i : ℕ) (before after : List ℕ) : Type 0 where
+  pub each : (k : ℕ) → k < 16 → get_or after k 0 ≡ get_or before k 0 + cond (eqb i k) 1 0
+
 -- such counts, with so many more
 abbrev pub Added : ℕ → List ℕ → (ℕ → ℕ) → List ℕ → Type 0
 Added bound first more counts = Counts bound (λ i. get_or first i 0 + more i) counts
@@ -168,25 +172,13 @@ link_time lines on_line clock l =
 pub record LinkTimes (of : ℕ → Option Time) (count : ℕ) (times : List Queued) : Type 0 where
   pub each : (l : ℕ) → l < count → (get_or times l no_queued).time ≡ of l
 
--- the number of the sender or of the toggler that a part is; 0 for any other part
-abbrev pub seat_of : Role → ℕ
-seat_of (link l) = 0
-seat_of bouncer = 0
-seat_of (sender i) = i
-seat_of (toggler i) = i
-seat_of nobody = 0
-
--- a part's own next time, where the sender and the toggler are those of its number; and the same among all of them
-abbrev pub seat_time : List Queued → Time → LossySender → Toggler → Role → Option Time
-seat_time links clock s t (link l) = (get_or links l no_queued).time
-seat_time links clock s t bouncer = None
-seat_time links clock s t (sender i) = sender_next s clock
-seat_time links clock s t (toggler i) = Some t.next_toggle
-seat_time links clock s t nobody = None
-
+-- the own next time of a role's part
 unfoldable pub role_time : List Queued → Time → List LossySender → List Toggler → Role → Option Time
-role_time links clock senders togglers role =
-    seat_time links clock (get_or senders (seat_of role) no_sender) (get_or togglers (seat_of role) no_toggler) role
+role_time links clock senders togglers (link l) = (get_or links l no_queued).time
+role_time links clock senders togglers bouncer = None
+role_time links clock senders togglers (sender i) = sender_next (get_or senders i no_sender) clock
+role_time links clock senders togglers (toggler i) = Some (get_or togglers i no_toggler).next_toggle
+role_time links clock senders togglers nobody = None
 
 -- a queued time is held and not below the clock
 unfoldable pub queued_test : Time → Option Time → Bool

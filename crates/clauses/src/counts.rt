@@ -2,10 +2,10 @@ ghost use Rattle.std.specs.Prelude.{◌≡◌, ◌+◌, ◌*◌, ◌≤◌, ◌<
 ghost use Rattle.link.specs.Ring.{slot_of};
 ghost use Rattle.remy.specs.State.{no_transit};
 ghost use Rattle.ranges.specs.Frame.{InRings, AllInRings};
-ghost use Rattle.clauses.specs.Tests.{AtMost, Added, Counts, line_of, lines_of, link_time, LinkTimes};
+ghost use Rattle.clauses.specs.Tests.{AtMost, Added, Counts, OneMore, line_of, lines_of, link_time, LinkTimes};
 
-use link::{Line, Transit, Waiting, next_tick};
-use quantities::{Time};
+use link::{Line, Packet, Transit, Waiting, next_tick};
+use quantities::Time;
 use toggler::Queued;
 
 // What is found of a line: counts of the senders' packets, and what stands at the start of the ring of
@@ -24,12 +24,26 @@ pub struct LinesFound {
     pub links: [Queued; 2],
 }
 
+// Counts one more packet, at its sender's; that of a sender from 16 on is counted nowhere.
+//
+// A helper, and no entry point: the caller shows that the counts are of two lines of 1,024 packets at most.
+fn count_packet(counts: &mut [usize; 16], packet: Packet)
+    requires { AtMost 2048 16 counts.old }
+    ensures { OneMore packet.sender counts.old counts.new }
+{
+    let k = packet.sender as usize;
+    if k < 16 {
+        counts[k] += 1;
+    }
+}
+
 // Counts with one more for each packet of line l, at its sender's; those of a sender from 16 on are
 // counted nowhere. And the front of line l, which is read here because a function that reads packets by
 // place copies all that there are.
 //
 // A helper, and no entry point: the caller shows that the counts before are of lines of 1,024 packets
 // at most, and that the rings' starts and counts are in their ranges.
+#[tactic(auto, using(crate::proofs::Turns::counting), unfolding(crate::specs::Tests::line_of))]
 fn line_counts(
     first: [usize; 16],
     waiting: [Waiting; 1024],
@@ -41,41 +55,23 @@ fn line_counts(
     ensures { Added (1024 * (l + 1)) first (line_of waiting on_line l line) result.counts × (result.front ≡ get_or on_line (slot_of l line.on_line.start) no_transit) }
 {
     let base = 512 * l;
-    let waits = line.waiting;
-    let moves = line.on_line;
-    let waits_start = waits.start;
-    let waits_count = waits.count;
-    let moves_start = moves.start;
-    let moves_count = moves.count;
     let mut counts = first;
-    let mut i = 0;
-    while i < waits_count {
-        let waiting_one = waiting[base + (waits_start + i) % 512];
-        let packet = waiting_one.packet;
-        let k = packet.sender as usize;
-        if k < 16 {
-            let c = counts[k];
-            counts[k] = c + 1;
-            i += 1;
-        } else {
-            i += 1;
-        }
+    for i in 0..line.waiting.count {
+        count_packet(
+            &mut counts,
+            waiting[base + (line.waiting.start + i) % 512].packet,
+        );
     }
-    let mut j = 0;
-    while j < moves_count {
-        let transit = on_line[base + (moves_start + j) % 512];
-        let packet = transit.packet;
-        let k = packet.sender as usize;
-        if k < 16 {
-            let c = counts[k];
-            counts[k] = c + 1;
-            j += 1;
-        } else {
-            j += 1;
-        }
+    for j in 0..line.on_line.count {
+        count_packet(
+            &mut counts,
+            on_line[base + (line.on_line.start + j) % 512].packet,
+        );
     }
-    let front = on_line[base + moves_start];
-    LineFound { counts, front }
+    LineFound {
+        counts,
+        front: on_line[base + line.on_line.start],
+    }
 }
 
 // How many packets of each sender wait or are on a line, of the first so many lines, where those of a
@@ -92,23 +88,14 @@ pub fn under_way(
     requires { (count ≤ 2) × AllInRings lines count }
     ensures { Counts 2048 (lines_of waiting on_line lines count) result.counts × LinkTimes (link_time lines on_line clock) count result.links }
 {
-    let empty = Queued {
-        time: None,
-    };
-    let mut counts: [usize; 16] = [0; 16];
-    let mut links = [empty; 2];
-    let mut l = 0;
-    while l < count {
-        let line = lines[l];
-        let found = line_counts(counts, waiting, on_line, l, line);
-        let more = found.counts;
-        let front = found.front;
-        let due = front.due;
-        let time = next_tick(line, clock, due);
-        let own = Queued { time };
-        counts = more;
-        links[l] = own;
-        l += 1;
+    let mut counts = [0; 16];
+    let mut links = [Queued { time: None }; 2];
+    for l in 0..count {
+        let found = line_counts(counts, waiting, on_line, l, lines[l]);
+        counts = found.counts;
+        links[l] = Queued {
+            time: next_tick(lines[l], clock, found.front.due),
+        };
     }
     LinesFound { counts, links }
 }

@@ -1,6 +1,6 @@
 ghost use Rattle.std.specs.Prelude.{◌≡◌, ◌&&◌, ◌≤◌, ◌<◌};
 ghost use Rattle.ranges.specs.Frame.{InRings, AllInRings};
-ghost use Rattle.clauses.specs.Tests.{AtMost, sent_test, waiting_test, on_line_test, due_test, line_packets_test, packets_test, soon_test, soon_on_test};
+ghost use Rattle.clauses.specs.Tests.{AtMost, sent_test, packet_test, waiting_test, on_line_test, due_test, line_packets_test, packets_test, soon_test, soon_on_test};
 
 use link::{Line, LineValues, Packet, Ring, Transit, Waiting};
 use quantities::{Information, Time, TimeSpan};
@@ -10,25 +10,29 @@ use sender::LossySender;
 
 // Whether a packet's sequence number is in 1..sent, where its sender sent so many, and it was sent in
 // 0..clock and not after 2^41.
+#[tactic(auto, unfolding(crate::specs::Tests::sent_test))]
 fn sent_fit(sent: u32, clock: Time, packet: Packet) -> bool
     ensures { result ≡ sent_test sent clock packet }
 {
-    if packet.seq < 1 {
-        return false;
-    }
-    if packet.seq > sent {
-        return false;
-    }
-    let at = packet.sent_time;
-    past_fit(clock, at)
+    1 <= packet.seq && packet.seq <= sent && past_fit(clock, packet.sent_time)
 }
 
-// Whether each packet that waits for line l is fit and carries its sender's bits, and the waiting bits
-// are the sum of what they carry. The sum cannot wrap: what is added is a sender's bits.
+// Whether a packet is one of n senders', and fit as one of those that its sender sent.
 //
 // A helper, and no entry point, as are the others here with a `requires`: the caller shows that there
 // are at most 16 senders, that their packets have at most 2^24 bits, and that the rings' starts and
 // counts are in their ranges.
+#[tactic(auto, unfolding(crate::specs::Tests::packet_test))]
+fn packet_fit(senders: &[LossySender; 16], n: u32, clock: Time, packet: Packet) -> bool
+    requires { n ≤ 16 }
+    ensures { result ≡ packet_test senders.now n clock packet }
+{
+    packet.sender < n && sent_fit(senders[packet.sender as usize].packets_sent, clock, packet)
+}
+
+// Whether each packet that waits for line l is fit and carries its sender's bits, and the waiting bits
+// are the sum of what they carry. The sum cannot wrap: what is added is a sender's bits.
+#[tactic(auto, using(crate::proofs::Turns::members, crate::proofs::Turns::sums, crate::proofs::Members::packet_known), unfolding(crate::specs::Tests::waiting_test, crate::specs::Tests::waits_test))]
 fn waiting_fit(
     senders: [LossySender; 16],
     sizes: [u64; 16],
@@ -43,33 +47,24 @@ fn waiting_fit(
     ensures { result ≡ waiting_test senders sizes n clock waiting l ring contains }
 {
     let base = 512 * l;
-    let start = ring.start;
-    let count = ring.count;
     let mut sum: u64 = 0;
-    let mut i = 0;
-    while i < count {
-        let waits = waiting[base + (start + i) % 512];
-        let packet = waits.packet;
-        let k = packet.sender;
-        if k >= n {
+    for i in 0..ring.count {
+        let waits = waiting[base + (ring.start + i) % 512];
+        if !packet_fit(&senders, n, clock, waits.packet) {
             return false;
         }
-        let sender = senders[k as usize];
-        if !sent_fit(sender.packets_sent, clock, packet) {
-            return false;
-        }
-        let size = sizes[k as usize];
+        let size = sizes[waits.packet.sender as usize];
         if waits.bits.0 != size {
             return false;
         }
         sum += size;
-        i += 1;
     }
     contains.0 == sum
 }
 
 // Whether each packet on line l is fit, and no due time is below the one before it. Two walks in one
 // function, as a function that reads packets by place copies all that there are.
+#[tactic(auto, using(crate::proofs::Turns::members, crate::proofs::Turns::falls), unfolding(crate::specs::Tests::on_line_test, crate::specs::Tests::transit_test, crate::specs::Tests::due_test))]
 fn on_line_fit(
     senders: [LossySender; 16],
     n: u32,
@@ -82,35 +77,19 @@ fn on_line_fit(
     ensures { result ≡ (on_line_test senders n clock on_line l ring && due_test on_line l ring) }
 {
     let base = 512 * l;
-    let start = ring.start;
-    let count = ring.count;
-    let mut i = 0;
-    while i < count {
-        let transit = on_line[base + (start + i) % 512];
-        let packet = transit.packet;
-        let k = packet.sender;
-        if k >= n {
+    for i in 0..ring.count {
+        let transit = on_line[base + (ring.start + i) % 512];
+        if !packet_fit(&senders, n, clock, transit.packet) {
             return false;
         }
-        let sender = senders[k as usize];
-        if !sent_fit(sender.packets_sent, clock, packet) {
+        if !time_held(transit.due) {
             return false;
         }
-        let due = transit.due;
-        if !time_held(due) {
-            return false;
-        }
-        i += 1;
     }
-    let mut j = 0;
-    while j + 1 < count {
-        let first = on_line[base + (start + j) % 512];
-        let second = on_line[base + (start + j + 1) % 512];
-        let a = first.due;
-        let b = second.due;
-        if a.0.0 <= b.0.0 {
-            j += 1;
-        } else {
+    for j in 1..ring.count {
+        let before = on_line[base + (ring.start + (j - 1)) % 512].due;
+        let due = on_line[base + (ring.start + j) % 512].due;
+        if !(before.0.0 <= due.0.0) {
             return false;
         }
     }
@@ -119,6 +98,7 @@ fn on_line_fit(
 
 // Whether the packets that wait for line l and those on it are fit, with the waiting bits, and no due
 // time falls.
+#[tactic(auto, unfolding(crate::specs::Tests::line_packets_test))]
 fn line_packets_fit(
     senders: [LossySender; 16],
     sizes: [u64; 16],
@@ -132,18 +112,22 @@ fn line_packets_fit(
     requires { (n ≤ 16) × AtMost 16777216 n sizes × (l < 2) × InRings line }
     ensures { result ≡ line_packets_test senders sizes n clock waiting on_line l line }
 {
-    let waits = line.waiting;
-    let moves = line.on_line;
-    let contains = line.buffer_contains;
-    if !waiting_fit(senders, sizes, n, clock, waiting, l, waits, contains) {
-        return false;
-    }
-    on_line_fit(senders, n, clock, on_line, l, moves)
+    waiting_fit(
+        senders,
+        sizes,
+        n,
+        clock,
+        waiting,
+        l,
+        line.waiting,
+        line.buffer_contains,
+    ) && on_line_fit(senders, n, clock, on_line, l, line.on_line)
 }
 
 // Whether the packets of the first so many lines are fit.
 //
 // A helper for `fitness`, and no entry point: `is_fit` has tested the network and the rings.
+#[tactic(auto, using(ranges::proofs::UpTo::up_goes, ranges::proofs::UpTo::up_stops, ranges::proofs::UpTo::up_done), unfolding(crate::specs::Tests::packets_test))]
 pub fn packets_fit(
     senders: [LossySender; 16],
     sizes: [u64; 16],
@@ -157,32 +141,24 @@ pub fn packets_fit(
     requires { (n ≤ 16) × AtMost 16777216 n sizes × (count ≤ 2) × AllInRings lines count }
     ensures { result ≡ packets_test senders sizes n clock waiting on_line lines count }
 {
-    let mut l = 0;
-    while l < count {
-        let line = lines[l];
-        if !line_packets_fit(senders, sizes, n, clock, waiting, on_line, l, line) {
+    for l in 0..count {
+        if !line_packets_fit(senders, sizes, n, clock, waiting, on_line, l, lines[l]) {
             return false;
         }
-        l += 1;
     }
     true
 }
 
 // Whether no packet on line l is due later than a time.
+#[tactic(auto, using(crate::proofs::Turns::members), unfolding(crate::specs::Tests::soon_on_test))]
 fn due_soon(on_line: [Transit; 1024], l: usize, ring: Ring, latest: Time) -> bool
     requires { (l < 2) × (ring.start < 512) × (ring.count ≤ 512) }
     ensures { result ≡ soon_on_test latest on_line l ring }
 {
     let base = 512 * l;
-    let start = ring.start;
-    let count = ring.count;
-    let mut i = 0;
-    while i < count {
-        let transit = on_line[base + (start + i) % 512];
-        let due = transit.due;
-        if due.0.0 <= latest.0.0 {
-            i += 1;
-        } else {
+    for i in 0..ring.count {
+        let due = on_line[base + (ring.start + i) % 512].due;
+        if !(due.0.0 <= latest.0.0) {
             return false;
         }
     }
@@ -193,6 +169,7 @@ fn due_soon(on_line: [Transit; 1024], l: usize, ring: Ring, latest: Time) -> boo
 // so many lines.
 //
 // A helper for `fitness`, and no entry point: `is_fit` has tested the rings.
+#[tactic(auto, using(ranges::proofs::UpTo::up_goes, ranges::proofs::UpTo::up_stops, ranges::proofs::UpTo::up_done), unfolding(crate::specs::Tests::soon_test))]
 pub fn all_due_soon(
     first: LineValues,
     back: Option<LineValues>,
@@ -204,16 +181,11 @@ pub fn all_due_soon(
     requires { (count ≤ 2) × AllInRings lines count }
     ensures { result ≡ soon_test first back clock on_line lines count }
 {
-    let mut l = 0;
-    while l < count {
-        let line = lines[l];
-        let ring = line.on_line;
-        let values = values_of(first, back, l);
-        let latest = clock.add(TimeSpan(values.delay));
-        if !due_soon(on_line, l, ring, latest) {
+    for l in 0..count {
+        let latest = clock + TimeSpan(values_of(first, back, l).delay);
+        if !due_soon(on_line, l, lines[l].on_line, latest) {
             return false;
         }
-        l += 1;
     }
     true
 }

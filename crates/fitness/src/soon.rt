@@ -11,16 +11,14 @@ use remy::Simulation;
 pub fn is_steady(simulation: Simulation) -> bool
     ensures { result ≡ steady simulation }
 {
-    if !is_fit(simulation) {
-        return false;
-    }
     let network = simulation.network;
-    let first = network.line;
-    let back = network.back;
-    let head = simulation.head;
-    let clock = head.clock;
-    let on_line = simulation.on_line;
-    let lines = simulation.lines;
-    let count = line_count(back);
-    all_due_soon(first, back, clock, on_line, lines, count)
+    is_fit(simulation)
+        && all_due_soon(
+            network.line,
+            network.back,
+            simulation.head.clock,
+            simulation.on_line,
+            simulation.lines,
+            line_count(network.back),
+        )
 }

@@ -20,8 +20,7 @@ pub fn is_fit(simulation: Simulation) -> bool
         return false;
     }
     let n = network.senders;
-    let back = network.back;
-    let count = line_count(back);
+    let count = line_count(network.back);
     let clock = head.clock;
     let waiting = simulation.waiting;
     let on_line = simulation.on_line;
@@ -30,17 +29,25 @@ pub fn is_fit(simulation: Simulation) -> bool
     if !packets_fit(senders, sizes, n, clock, waiting, on_line, lines, count) {
         return false;
     }
-    let policy = network.policy;
     let togglers = simulation.togglers;
-    let meters = simulation.meters;
     let found = under_way(waiting, on_line, lines, clock, count);
-    let each = found.counts;
-    if !senders_fit(policy, sizes, clock, each, n, senders, togglers, meters) {
-        return false;
-    }
-    let links = found.links;
-    let returns = has_back(back);
-    let queue = simulation.queue;
-    let next = head.next;
-    queue_fit(n, returns, links, clock, senders, togglers, queue, next)
+    senders_fit(
+        network.policy,
+        sizes,
+        clock,
+        found.counts,
+        n,
+        senders,
+        togglers,
+        simulation.meters,
+    ) && queue_fit(
+        n,
+        has_back(network.back),
+        found.links,
+        clock,
+        senders,
+        togglers,
+        simulation.queue,
+        head.next,
+    )
 }

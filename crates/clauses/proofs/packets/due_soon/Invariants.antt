@@ -1,5 +1,4 @@
--- The invariant: the test of the transits from the i-th on is the test of all. The measure is what is left. Assumes nothing.
-use Prim.Native.Nat.{◌-◌, ◌≤◌}
+-- The invariant: the test of the transits from the i-th on is the test of all. Assumes nothing.
 use mathlib.Core.Path.{◌≡◌}
 use lib.Ieee.{le}
 use Rattle.link.specs.Ring.{items_from}
@@ -10,7 +9,4 @@ use Rattle.clauses.proofs.packets.due_soon.Given as goal
 
 abbrev pub invariant-loop-i : goal.invariant-loop-i
 invariant-loop-i l =
-    (l.i ≤ l.count) × (every (λ x. le x.due.0.0 l.latest.0.0) (rest no_transit l.on_line l.l l.start l.count l.i) ≡ every (λ x. le x.due.0.0 l.latest.0.0) (items_from no_transit l.on_line l.l l.start l.count))
-
-abbrev pub decreases-loop-i : goal.decreases-loop-i
-decreases-loop-i l = l.count - l.i
+    every (λ x. le x.due.0.0 l.latest.0.0) (rest no_transit l.on_line l.l l.ring.start l.ring.count l.i) ≡ every (λ x. le x.due.0.0 l.latest.0.0) (items_from no_transit l.on_line l.l l.ring.start l.ring.count)

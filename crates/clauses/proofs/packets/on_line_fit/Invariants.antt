@@ -1,6 +1,6 @@
--- The invariant of each loop: the test of the transits from the i-th on is the test of all, and the due times from the j-th on fall exactly if some fall. The
--- measures are what is left. Assumes nothing.
-use Prim.Native.Nat.{◌-◌, ◌≤◌}
+-- The invariant of each loop: the test of the transits from the i-th on is the test of all, and the due times from the one before the j-th on fall exactly if some
+-- fall. Assumes nothing.
+use Prim.Native.Nat.{◌-◌}
 use mathlib.Core.Path.{◌≡◌}
 use Rattle.link.specs.Ring.{items_from}
 use Rattle.remy.specs.State.{no_transit}
@@ -11,14 +11,8 @@ use Rattle.clauses.proofs.packets.on_line_fit.Given as goal
 
 abbrev pub invariant-loop-i : goal.invariant-loop-i
 invariant-loop-i l =
-    (l.i ≤ l.count) × (every (transit_test l.senders l.n l.clock) (rest no_transit l.on_line l.l l.start l.count l.i) ≡ every (transit_test l.senders l.n l.clock) (items_from no_transit l.on_line l.l l.start l.count))
-
-abbrev pub decreases-loop-i : goal.decreases-loop-i
-decreases-loop-i l = l.count - l.i
+    every (transit_test l.senders l.n l.clock) (rest no_transit l.on_line l.l l.ring.start l.ring.count l.i) ≡ every (transit_test l.senders l.n l.clock) (items_from no_transit l.on_line l.l l.ring.start l.ring.count)
 
 abbrev pub invariant-loop-j : goal.invariant-loop-j
 invariant-loop-j l =
-    (l.j ≤ l.count) × (rising (rest no_transit l.on_line l.l l.start l.count l.j) ≡ rising (items_from no_transit l.on_line l.l l.start l.count))
-
-abbrev pub decreases-loop-j : goal.decreases-loop-j
-decreases-loop-j l = l.count - l.j
+    rising (rest no_transit l.on_line l.l l.ring.start l.ring.count (l.j - 1)) ≡ rising (items_from no_transit l.on_line l.l l.ring.start l.ring.count)

@@ -1,5 +1,4 @@
--- The invariant: the test of the packets from the i-th on is the test of all, and the sum is that of the bits so far. The measure is what is left. Assumes nothing.
-use Prim.Native.Nat.{◌-◌, ◌≤◌}
+-- The invariant: the test of the packets from the i-th on is the test of all, and the sum is that of the bits so far. Assumes nothing.
 use mathlib.Core.Path.{◌≡◌}
 use Rattle.link.specs.Ring.{items_from}
 use Rattle.remy.specs.State.{no_waiting}
@@ -10,9 +9,5 @@ use Rattle.clauses.proofs.packets.waiting_fit.Given as goal
 
 abbrev pub invariant-loop-i : goal.invariant-loop-i
 invariant-loop-i l =
-    (l.i ≤ l.count)
-    × (every (waits_test l.senders l.sizes l.n l.clock) (rest no_waiting l.waiting l.l l.start l.count l.i) ≡ every (waits_test l.senders l.sizes l.n l.clock) (items_from no_waiting l.waiting l.l l.start l.count))
-    × Summed no_waiting l.waiting l.l l.start l.count l.sum l.i
-
-abbrev pub decreases-loop-i : goal.decreases-loop-i
-decreases-loop-i l = l.count - l.i
+    (every (waits_test l.senders l.sizes l.n l.clock) (rest no_waiting l.waiting l.l l.ring.start l.ring.count l.i) ≡ every (waits_test l.senders l.sizes l.n l.clock) (items_from no_waiting l.waiting l.l l.ring.start l.ring.count))
+    × Summed no_waiting l.waiting l.l l.ring.start l.ring.count l.sum l.i

@@ -1,21 +1,20 @@
--- The invariant: nothing is queued in the first k places. The measure is what is left. Assumes nothing.
-use mathlib.Core.Bool.{true}
-use native.Mathlib.Omega.{arith}
-use Rattle.clauses.proofs.Members.{empty-none, empty_goes, empty-stops, empty-done}
+-- A place where something is queued fails the test of all. Assumes nothing.
+use Rattle.std.proofs.Common.{◌≡◌, false, not, rules}
+use lib.ListN.{get_or}
+use Rattle.meters.specs.Meter.{is_on}
+use Rattle.toggler.specs.Queue.{no_queued}
+use Rattle.ranges.proofs.UpTo.{up_stops, up_done}
+use Rattle.clauses.specs.Tests.{empty_test}
 use Rattle.clauses.proofs.queue.is_empty.Goals as goal
 
-pub loop-k-init : goal.loop-k-init
-loop-k-init c = (omega arith, empty-none _)
-
-pub returns-then-is_on : goal.returns-then-is_on
-returns-then-is_on c =
-    let S = c.is_on in empty-stops _ _ S.result S.ensures 35 c.loop-k-test.true c.if-is_on.true
-
-pub loop-k-preserved : goal.loop-k-preserved
-loop-k-preserved c =
-    let S = c.is_on in
-    (omega (arith, c.loop-k-test.true), empty_goes _ _ S.result S.ensures c.loop-k.invariant.1 c.if-is_on.false)
+pub returns-then-is_some : goal.returns-then-is_some
+unfolding empty_test
+returns-then-is_some c =
+    let q = c.args.queue in
+    let k = c.loop-k.k in
+    let fails : not (is_on (get_or q k no_queued).time) ≡ false = search rules in
+    up_stops (λ j. not (is_on (get_or q j no_queued).time)) 35 k c.loop-k-test.true fails
 
 pub returns : goal.returns
-returns c =
-    empty-done _ 35 c.loop-k.k c.loop-k.invariant.1 c.loop-k.invariant.0 c.loop-k-test.false
+unfolding empty_test
+returns c = up_done _ 35 c.loop-k.k c.loop-k.invariant c.loop-k.auto.k-end c.loop-k-test.false

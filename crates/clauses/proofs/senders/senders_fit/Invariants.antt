@@ -1,5 +1,4 @@
--- The invariant: the first i senders are fit. The measure is what is left. Assumes nothing.
-use Prim.Native.Nat.{◌-◌, ◌≤◌}
+-- The invariant: the first i senders are fit. Assumes nothing.
 use mathlib.Core.Path.{◌≡◌}
 use mathlib.Core.Bool.{true}
 use lib.ListN.{get_or}
@@ -8,7 +7,4 @@ use Rattle.clauses.proofs.senders.senders_fit.Given as goal
 
 abbrev pub invariant-loop-i : goal.invariant-loop-i
 invariant-loop-i l =
-    (l.i ≤ l.n) × (senders_test l.policy (λ k. get_or l.sizes k 0) l.clock (λ k. get_or l.counts k 0) l.i l.senders l.togglers l.meters ≡ true)
-
-abbrev pub decreases-loop-i : goal.decreases-loop-i
-decreases-loop-i l = l.n - l.i
+    senders_test l.policy (λ k. get_or l.sizes k 0) l.clock (λ k. get_or l.counts k 0) l.i l.senders l.togglers l.meters ≡ true
