@@ -1,7 +1,6 @@
 -- One turn of the making of the parts: it goes on, or stops where a draw is spent; and its end. Assumes nothing.
 use Prim.Native.Nat.{ℕ, suc, ◌+◌, ◌-◌, ◌≤◌, ◌<◌}
 use mathlib.Core.Path.{◌≡◌, ap}
-use mathlib.Core.List.{List}
 use native.Mathlib.Omega.{arith}
 use lib.ListN.{set}
 use borrow.Author.Tests.{ne_eqb}
@@ -10,12 +9,11 @@ use Rattle.draws.specs.declared.generator.Child.{Child}
 use Rattle.draws.specs.declared.distribution.ContinuousDistribution.{ContinuousDistribution}
 use Rattle.draws.specs.Generator.{child_of}
 use Rattle.sender.specs.declared.lossy.LossySender.{LossySender}
-use Rattle.toggler.specs.declared.toggler.Toggler.{Toggler}
 use Rattle.toggler.specs.declared.toggler.Toggled.{Toggled}
 use Rattle.toggler.specs.Toggler.{new_toggler}
 use Rattle.remy.specs.Build.{Parts, new_sender, no_parts, populate}
 use Rattle.parts.specs.declared.Made.{Made}
-use Rattle.parts.specs.Parts.{told_parts, parts_of}
+use Rattle.parts.specs.Parts.{told_parts}
 
 module _ (n i : ℕ) (off : ContinuousDistribution) (m : Made) where
   -- nothing is left to make

@@ -137,6 +137,7 @@ pub fn make(n: usize, root: Rng, off: ContinuousDistribution) -> Made
 
 // The generator of the second link: the next child of the root, which is its last, where there is a
 // return line.
+#[tactic(auto, unfolding(remy::specs::Build::back_words))]
 pub fn back_words(network: RemyNetwork, root: Rng) -> Rng
     ensures { result ≡ back_words network root }
 {

@@ -6,4 +6,4 @@ use Rattle.parts.specs.Parts.{told_parts}
 use Rattle.parts.proofs.make.Given as goal
 
 abbrev pub invariant-loop-i : goal.invariant-loop-i
-invariant-loop-i l = populate (l.n - l.i) l.i l.off (told_parts l.made) ≡ populate l.n 0 l.off (no_parts l.root)
+invariant-loop-i l = populate (l.n - l.i) l.i l.off (told_parts l.made) ≡ populate l.n 0 l.off (no_parts l.fn.root)
