@@ -9,7 +9,7 @@ ghost use Rattle.remy.specs.State.{has_back, link, role_of, part_count};
 ghost use Rattle.remy.specs.Queue.{part_of, head_of};
 ghost use Rattle.queueing.specs.Queueing.{now_role, now_of, link_slot, sender_slot, toggler_slot, place_after_pick};
 
-use link::{Line, Transit};
+use link::{Line, LineValues, Transit};
 use quantities::{Time};
 use ranges::lines::has_back;
 use remy::{Head};

@@ -20,7 +20,7 @@ unfolding now_of of_bits
 returns-then-head c =
     rw (
       c.if-not-fit.false,
-      c.in-Part.is,
+      c.in-Some.is,
       c.if-head.true,
     )
 
@@ -31,6 +31,6 @@ returns c =
       c.role.ensures,
       c.has_back.ensures,
       c.if-not-fit.false,
-      c.in-Part.is,
+      c.in-Some.is,
       c.if-head.false,
     )

@@ -18,5 +18,5 @@ no_stop : (v : LineValues) → eqb (values_stop v 0) 0 ≡ values_fit v
 unfolding values_stop
 no_stop v = chain (delay_fit v.delay) (rate_fit v.rate) (loss_fit v.loss) (limit_fit v.limit)
 
-pub returns-in-Line : goal.returns-in-Line
-returns-in-Line c = rw (c.values_stop.ensures, c.in-Line.is) (no_stop _)
+pub returns-in-Some : goal.returns-in-Some
+returns-in-Some c = rw (c.values_stop.ensures, c.in-Some.is) (no_stop _)

@@ -20,11 +20,11 @@ returns-in-None c =
       c.in-None.is,
     )
 
-pub returns-in-Part : goal.returns-in-Part
+pub returns-in-Some : goal.returns-in-Some
 unfolding clock_held of_bits
-returns-in-Part c =
+returns-in-Some c =
     rw (
       ← c.time_held.ensures,
       c.if-time_held.false,
-      c.in-Part.is,
+      c.in-Some.is,
     )

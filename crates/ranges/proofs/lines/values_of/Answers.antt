@@ -14,5 +14,5 @@ values-later first back (suc l) other = refl
 pub returns-in-None : goal.returns-in-None
 returns-in-None c = rw (← values-later c.args.first c.args.back c.args.l c.if-l-eq0.false, c.in-None.is)
 
-pub returns-in-Line : goal.returns-in-Line
-returns-in-Line c = rw (← values-later c.args.first c.args.back c.args.l c.if-l-eq0.false, c.in-Line.is)
+pub returns-in-Some : goal.returns-in-Some
+returns-in-Some c = rw (← values-later c.args.first c.args.back c.args.l c.if-l-eq0.false, c.in-Some.is)
