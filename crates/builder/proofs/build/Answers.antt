@@ -7,8 +7,7 @@ pub returns-then-number-ne0 : goal.returns-then-number-ne0
 returns-then-number-ne0 c = c.refuse.ensures ∙ refused _ _ _ c.network_stop-number.ensures c.if-number-ne0.true
 
 pub make-made-requires : goal.make-made-requires
-make-made-requires c =
-    few _ c.args.seed _ c.network_stop-number.ensures c.if-number-ne0.false
+make-made-requires c = few _ c.args.seed _ c.network_stop-number.ensures c.if-number-ne0.false
 
 pub returns-then-made-ne0 : goal.returns-then-made-ne0
 returns-then-made-ne0 c =
@@ -17,8 +16,7 @@ returns-then-made-ne0 c =
     c.from_seed.ensures c.create_child-c.ensures c.make-made.ensures c.if-made-ne0.true
 
 pub finish-requires : goal.finish-requires
-finish-requires c =
-    few _ c.args.seed _ c.network_stop-number.ensures c.if-number-ne0.false
+finish-requires c = (few _ c.args.seed _ c.network_stop-number.ensures c.if-number-ne0.false, c.if-made-ne0.false)
 
 pub returns : goal.returns
 returns c =
