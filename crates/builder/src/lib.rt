@@ -50,6 +50,7 @@ fn finish(network: RemyNetwork, link: Rng, made: Made) -> Built
 
 // The simulation that the network and the seed give, with its first part picked, and the number 0;
 // or the number of what is refused, 1 to 8 or 20, and the empty simulation.
+#[tactic(auto, using(crate::proofs::Building::refused, crate::proofs::Building::few, crate::proofs::Building::finished))]
 pub fn build(network: RemyNetwork, seed: u64) -> Built
     ensures { result ≡ build_of network seed }
 {
