@@ -23,6 +23,7 @@ pub(crate) fn fresh(
 ) -> Simulation
     ensures { result ≡ with_head (unqueued network link back (told_parts made)) head }
 {
+    // Variables: the proof does not close where a field's array goes straight into the literal.
     let senders = made.senders;
     let togglers = made.togglers;
     Simulation {
