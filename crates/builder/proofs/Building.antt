@@ -10,7 +10,7 @@ use Rattle.remy.specs.Network.{network_stop}
 use Rattle.remy.specs.Build.{no_parts, populate, not_built, build_from, build_of}
 use Rattle.remy.proofs.Networks.{fit-network, few_senders}
 use Rattle.parts.specs.declared.Made.{Made}
-use Rattle.parts.specs.Parts.{told_parts, parts_of}
+use Rattle.parts.specs.Parts.{told_parts}
 
 module _ (n : RemyNetwork) (seed k : ℕ) (stop : k ≡ network_stop n) where
   pub refused : (k ≡ 0 → ⊥) → not_built k ≡ build_of n seed
@@ -28,6 +28,6 @@ module _ (n : RemyNetwork) (seed k : ℕ) (stop : k ≡ network_stop n) where
       unfolding build_of
       spent some = rw (← stop, none, ← seeded, ← first, ← made, ne_eqb _ _ some)
 
-      pub finished : m.number ≡ 0 → build_from n c.child (parts_of m.root m.senders m.togglers) ≡ build_of n seed
+      pub finished : m.number ≡ 0 → build_from n c.child (told_parts m) ≡ build_of n seed
       unfolding build_of
       finished all = rw (← stop, none, ← seeded, ← first, ← made, all)

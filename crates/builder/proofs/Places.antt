@@ -1,25 +1,22 @@
 -- A part's own next time by whose turn it would be, and one turn of the queueing of all parts. Assumes nothing.
 use Rattle.std.proofs.Common.{Option, None}
-use Prim.Native.Nat.{ℕ, zero, suc, ◌+◌, ◌-◌, ◌≤◌, ◌<◌}
+use Prim.Native.Nat.{ℕ, suc, ◌+◌, ◌-◌, ◌≤◌, ◌<◌}
 use mathlib.Core.Path.{◌≡◌, refl, sym, ap, subst, ◌∙◌}
-use mathlib.Core.List.{List, [], ◌∷◌, ◌++◌, append_assoc, append-nil}
+use mathlib.Core.List.{List, ◌++◌, append_assoc, append-nil}
 use native.Mathlib.Numerals.{add-one}
 use native.Mathlib.Omega.{arith}
-use lib.ListN.{length, take, set, get_or}
+use lib.ListN.{length, take, set}
 use lib.Seq.{take_all, take-suc-set}
 use Rattle.quantities.specs.declared.time.Time.{Time}
-use Rattle.draws.specs.declared.generator.Rng.{Rng}
 use Rattle.toggler.specs.declared.tick_queue.Queued.{Queued}
-use Rattle.link.specs.Ring.{places}
 use Rattle.toggler.specs.Queue.{queue_places}
 use Rattle.remy.specs.declared.simulation.Simulation.{Simulation}
-use Rattle.remy.specs.State.{has_back, line_count, Role, link, sender, toggler, role_in, no_line}
+use Rattle.remy.specs.State.{has_back, line_count, Role, link, sender, toggler, role_in}
 use Rattle.remy.specs.Queue.{own_time, next_time_of}
-use Rattle.remy.specs.Build.{new_line, own_times}
+use Rattle.remy.specs.Build.{own_times}
 use Rattle.remy.proofs.Facts.{first-there, second_there}
 use Rattle.remy.proofs.Roles.{role_elim}
 use Rattle.queueing.specs.declared.Now.{Now}
-use Rattle.queueing.specs.declared.Now.TheVariants as Now
 use Rattle.queueing.specs.Queueing.{now_role}
 
 -- a part's own next time, and that the part is there
@@ -58,9 +55,3 @@ module _ (s : Simulation) (queue : List Queued) (k : ℕ) (full : length queue �
   pub all_queued_lem : queue_places ≤ k → queue ≡ take k queue ++ own_times s (queue_places - k) k
   unfolding own_times
   all_queued_lem h = let none : queue_places - k ≡ 0 = omega arith in let short : length queue ≤ k = omega arith in rw (none, append-nil, take_all k queue short)
-
--- the rings of new lines begin at their first place
-pub new_start : (first second : Rng) (l : ℕ) → (get_or (new_line first ∷ (new_line second ∷ [])) l no_line).on_line.start < places
-new_start first second zero = omega arith
-new_start first second (suc zero) = omega arith
-new_start first second (suc (suc l)) = omega arith

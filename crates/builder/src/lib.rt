@@ -4,7 +4,7 @@
 
 ghost use Rattle.std.specs.Prelude.{◌≡◌, ◌≤◌};
 ghost use Rattle.remy.specs.Build.{not_built, build_from, build_of};
-ghost use Rattle.parts.specs.Parts.{parts_of};
+ghost use Rattle.parts.specs.Parts.{told_parts};
 
 mod queue;
 mod state;
@@ -12,53 +12,45 @@ mod state;
 use crate::queue::{pick_next, queue_all};
 use crate::state::fresh;
 use draws::Rng;
-use parts::{back_words, make};
-use quantities::{Time, TimeSpan};
+use parts::{Made, back_words, make};
+use quantities::Time;
 use ranges::network_stop;
 use remy::{Built, Head, RemyNetwork};
-use sender::LossySender;
 pub use state::empty_simulation;
-use toggler::Toggler;
 
 // A refused build: the number, and the empty simulation.
 fn refuse(number: u32) -> Built
     ensures { result ≡ not_built number }
 {
-    let simulation = empty_simulation();
-    Built { number, simulation }
+    Built {
+        number,
+        simulation: empty_simulation(),
+    }
 }
 
 // The build of a network with its parts made: the second link's generator is made of the root after
 // them, each part is queued, and the first is picked.
 //
-// A helper: `build` has tested the senders' number.
-fn finish(
-    network: RemyNetwork,
-    link: Rng,
-    root: Rng,
-    senders: [LossySender; 16],
-    togglers: [Toggler; 16],
-) -> Built
-    requires { network.senders ≤ 16 }
-    ensures { result ≡ build_from network link (parts_of root senders togglers) }
+// A helper: `build` has tested the senders' number, and that no draw was spent.
+fn finish(network: RemyNetwork, link: Rng, made: Made) -> Built
+    requires { (network.senders ≤ 16) × (made.number ≡ 0) }
+    ensures { result ≡ build_from network link (told_parts made) }
 {
-    let clock = Time(TimeSpan(0.0));
     let head = Head {
-        clock,
+        clock: Time::SIM_START,
         next: None,
     };
-    let back = back_words(network, root);
-    let bare = fresh(network, head, link, back, senders, togglers);
-    let queued = queue_all(bare);
-    let simulation = pick_next(queued);
+    let back = back_words(network, made.root);
+    let bare = fresh(network, head, link, back, made);
     Built {
         number: 0,
-        simulation,
+        simulation: pick_next(queue_all(bare)),
     }
 }
 
 // The simulation that the network and the seed give, with its first part picked, and the number 0;
 // or the number of what is refused, 1 to 8 or 20, and the empty simulation.
+#[tactic(auto, using(crate::proofs::Building::refused, crate::proofs::Building::few, crate::proofs::Building::finished))]
 pub fn build(network: RemyNetwork, seed: u64) -> Built
     ensures { result ≡ build_of network seed }
 {
@@ -67,16 +59,9 @@ pub fn build(network: RemyNetwork, seed: u64) -> Built
         return refuse(number);
     }
     let c = Rng::from_seed(seed).create_child();
-    let link = c.child;
-    let root = c.parent;
-    let off = network.off;
-    let n = network.senders as usize;
-    let made = make(n, root, off);
+    let made = make(network.senders as usize, c.parent, network.off);
     if made.number != 0 {
         return refuse(made.number);
     }
-    let last = made.root;
-    let senders = made.senders;
-    let togglers = made.togglers;
-    finish(network, link, last, senders, togglers)
+    finish(network, c.child, made)
 }

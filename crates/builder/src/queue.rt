@@ -11,19 +11,18 @@ use toggler::Queued;
 use toggler::tick_queue::pick;
 
 // The simulation with its least time picked and removed, as its clock and next part.
+#[tactic(auto, using(queueing::proofs::Picks::part_inside, queueing::proofs::Picks::picks))]
 pub(crate) fn pick_next(simulation: Simulation) -> Simulation
     ensures { result ≡ picked simulation }
 {
-    let queue = simulation.queue;
-    let best = pick(queue);
-    let part = best.part;
-    let old = queue[part];
-    let head = head_of(best);
-    let place = place_after(best, old);
-    let mut out = simulation;
-    out.head = head;
-    out.queue[part] = place;
-    out
+    let best = pick(simulation.queue);
+    let mut queue = simulation.queue;
+    queue[best.part] = place_after(best, queue[best.part]);
+    Simulation {
+        head: head_of(best),
+        queue,
+        ..simulation
+    }
 }
 
 // The simulation with each part queued at its own next time.
@@ -35,48 +34,24 @@ pub(crate) fn queue_all(simulation: Simulation) -> Simulation
     ensures { result ≡ queued_all simulation }
 {
     let network = simulation.network;
-    let n = network.senders;
-    let back = network.back;
-    let returns = has_back(back);
-    let head = simulation.head;
-    let clock = head.clock;
-    let empty = Queued {
-        time: None,
-    };
-    let mut queue = [empty; 35];
-    let mut k: usize = 0;
-    while k < 35 {
-        let now = role(k, n, returns);
-        match now {
-            Now::Stop(_) => {
-                queue[k] = empty;
-                k += 1;
-            }
+    let returns = has_back(network.back);
+    let clock = simulation.head.clock;
+    let mut queue = [Queued { time: None }; 35];
+    for k in 0..35 {
+        let time = match role(k, network.senders, returns) {
+            Now::Stop(_) => None,
             Now::Link(l) => {
                 let line = simulation.lines[l];
-                let start = 512 * l + line.on_line.start;
-                let front = simulation.on_line[start];
-                let time = next_tick(line, clock, front.due);
-                let place = Queued { time };
-                queue[k] = place;
-                k += 1;
+                let front = simulation.on_line[512 * l + line.on_line.start];
+                next_tick(line, clock, front.due)
             }
-            Now::Sender(i) => {
-                let s = simulation.senders[i];
-                let time = s.next_tick(clock);
-                let place = Queued { time };
-                queue[k] = place;
-                k += 1;
-            }
-            Now::Toggler(i) => {
-                let t = simulation.togglers[i];
-                let place = toggler_slot(t);
-                queue[k] = place;
-                k += 1;
-            }
-        }
+            Now::Sender(i) => simulation.senders[i].next_tick(clock),
+            Now::Toggler(i) => toggler_slot(simulation.togglers[i]).time,
+        };
+        queue[k] = Queued { time };
     }
-    let mut out = simulation;
-    out.queue = queue;
-    out
+    Simulation {
+        queue,
+        ..simulation
+    }
 }

@@ -1,53 +1,41 @@
 ghost use Rattle.std.specs.Prelude.{◌≡◌};
 ghost use Rattle.remy.specs.State.{with_head};
 ghost use Rattle.remy.specs.Build.{unqueued, empty_simulation};
-ghost use Rattle.parts.specs.Parts.{parts_of};
+ghost use Rattle.parts.specs.Parts.{told_parts};
 
 use draws::Rng;
 use meters::AverageFlowMeter;
 use parts::{
-    blank_transit, blank_waiting, blank_words, empty_network, empty_words, new_line, no_parts,
+    Made, blank_transit, blank_waiting, blank_words, empty_network, empty_words, new_line, no_parts,
 };
-use quantities::{Time};
+use quantities::Time;
 use remy::{Head, RemyNetwork, Simulation};
-use sender::LossySender;
-use toggler::{Queued, Toggler};
+use toggler::Queued;
 
 // A simulation in which nothing was sent, waits, moves, was counted or is queued, with the generators
-// of its two links.
+// of its two links and the parts made.
 pub(crate) fn fresh(
     network: RemyNetwork,
     head: Head,
     link: Rng,
     back: Rng,
-    senders: [LossySender; 16],
-    togglers: [Toggler; 16],
+    made: Made,
 ) -> Simulation
-    ensures { result ≡ with_head (unqueued network link back (parts_of back senders togglers)) head }
+    ensures { result ≡ with_head (unqueued network link back (told_parts made)) head }
 {
-    let first = new_line(link);
-    let second = new_line(back);
-    let waits = blank_waiting();
-    let transit = blank_transit();
-    let meter = AverageFlowMeter::new_disabled();
-    let place = Queued {
-        time: None,
-    };
-    let lines = [first, second];
-    let waiting = [waits; 1024];
-    let on_line = [transit; 1024];
-    let meters = [meter; 16];
-    let queue = [place; 35];
+    // Variables: the proof does not close where a field's array goes straight into the literal.
+    let senders = made.senders;
+    let togglers = made.togglers;
     Simulation {
         network,
         head,
-        lines,
-        waiting,
-        on_line,
+        lines: [new_line(link), new_line(back)],
+        waiting: [blank_waiting(); 1024],
+        on_line: [blank_transit(); 1024],
         senders,
         togglers,
-        meters,
-        queue,
+        meters: [AverageFlowMeter::new_disabled(); 16],
+        queue: [Queued { time: None }; 35],
     }
 }
 
@@ -55,16 +43,10 @@ pub(crate) fn fresh(
 pub fn empty_simulation() -> Simulation
     ensures { result ≡ empty_simulation }
 {
-    let network = empty_network();
-    let link = empty_words();
-    let back = blank_words();
-    let none = no_parts(back);
-    let senders = none.senders;
-    let togglers = none.togglers;
-    let clock = Time::MAX;
     let head = Head {
-        clock,
+        clock: Time::MAX,
         next: None,
     };
-    fresh(network, head, link, back, senders, togglers)
+    let words = blank_words();
+    fresh(empty_network(), head, empty_words(), words, no_parts(words))
 }

@@ -10,8 +10,8 @@ ghost use Rattle.parts.specs.Parts.{told_parts};
 
 use draws::{ContinuousDistribution, Rng};
 use link::{Line, LineValues, Packet, Ring, Transit, Waiting};
-use quantities::{Information, Time, TimeSpan};
-use remy::{RemyNetwork};
+use quantities::{Information, Time};
+use remy::RemyNetwork;
 use sender::{LossySender, Policy, SenderState};
 use toggler::{Toggler, create};
 
@@ -29,15 +29,12 @@ pub struct Made {
 pub fn new_line(rng: Rng) -> Line
     ensures { result ≡ new_line rng }
 {
-    let earliest_transmit = Time::MIN;
-    let buffer_contains = Information(0);
-    let waiting = Ring { start: 0, count: 0 };
-    let on_line = Ring { start: 0, count: 0 };
+    let empty = Ring { start: 0, count: 0 };
     Line {
-        earliest_transmit,
-        buffer_contains,
-        waiting,
-        on_line,
+        earliest_transmit: Time::MIN,
+        buffer_contains: Information(0),
+        waiting: empty,
+        on_line: empty,
         rng,
     }
 }
@@ -64,11 +61,10 @@ pub fn blank_words() -> Rng
 fn blank_packet() -> Packet
     ensures { result ≡ blank_packet }
 {
-    let sent_time = Time(TimeSpan(0.0));
     Packet {
         sender: 0,
         seq: 0,
-        sent_time,
+        sent_time: Time::SIM_START,
     }
 }
 
@@ -76,30 +72,30 @@ fn blank_packet() -> Packet
 pub fn blank_waiting() -> Waiting
     ensures { result ≡ blank_waiting }
 {
-    let packet = blank_packet();
-    let bits = Information(0);
-    Waiting { packet, bits }
+    Waiting {
+        packet: blank_packet(),
+        bits: Information(0),
+    }
 }
 
 // What a place holds where no packet is on the line.
 pub fn blank_transit() -> Transit
     ensures { result ≡ blank_transit }
 {
-    let packet = blank_packet();
-    let due = Time(TimeSpan(0.0));
-    Transit { packet, due }
+    Transit {
+        packet: blank_packet(),
+        due: Time::SIM_START,
+    }
 }
 
 // What a place holds where there is no toggler.
 pub fn blank_toggler() -> Toggler
     ensures { result ≡ blank_toggler }
 {
-    let next_toggle = Time(TimeSpan(0.0));
-    let rng = blank_words();
     Toggler {
         enabled: false,
-        next_toggle,
-        rng,
+        next_toggle: Time::SIM_START,
+        rng: blank_words(),
     }
 }
 
@@ -107,15 +103,11 @@ pub fn blank_toggler() -> Toggler
 pub fn no_parts(root: Rng) -> Made
     ensures { told_parts result ≡ no_parts root }
 {
-    let sender = new_sender(blank_words());
-    let toggler = blank_toggler();
-    let senders = [sender; 16];
-    let togglers = [toggler; 16];
     Made {
         number: 0,
         root,
-        senders,
-        togglers,
+        senders: [new_sender(blank_words()); 16],
+        togglers: [blank_toggler(); 16],
     }
 }
 
@@ -127,50 +119,31 @@ pub fn make(n: usize, root: Rng, off: ContinuousDistribution) -> Made
     requires { n ≤ 16 }
     ensures { told_parts result ≡ populate n 0 off (no_parts root) }
 {
-    let none = no_parts(root);
-    let mut senders = none.senders;
-    let mut togglers = none.togglers;
-    let mut at = root;
-    let mut i: usize = 0;
-    while i < n {
-        let c = at.create_child();
+    let mut made = no_parts(root);
+    for i in 0..n {
+        let c = made.root.create_child();
         let d = c.parent.create_child();
-        let t = create(d.child, off);
-        let sender = new_sender(c.child);
-        let toggler = t.toggler;
-        senders[i] = sender;
-        togglers[i] = toggler;
-        at = d.parent;
-        if t.number != 0 {
-            return Made {
-                number: t.number,
-                root: at,
-                senders,
-                togglers,
-            };
+        let first = create(d.child, off);
+        made.number = first.number;
+        made.root = d.parent;
+        made.senders[i] = new_sender(c.child);
+        made.togglers[i] = first.toggler;
+        if made.number != 0 {
+            return made;
         }
-        i += 1;
     }
-    Made {
-        number: 0,
-        root: at,
-        senders,
-        togglers,
-    }
+    made
 }
 
 // The generator of the second link: the next child of the root, which is its last, where there is a
 // return line.
+#[tactic(auto, unfolding(remy::specs::Build::back_words))]
 pub fn back_words(network: RemyNetwork, root: Rng) -> Rng
     ensures { result ≡ back_words network root }
 {
-    let back = network.back;
-    match back {
+    match network.back {
         None => blank_words(),
-        Some(_) => {
-            let c = root.create_child();
-            c.child
-        }
+        Some(_) => root.create_child().child,
     }
 }
 
@@ -179,17 +152,15 @@ pub fn back_words(network: RemyNetwork, root: Rng) -> Rng
 pub fn empty_network() -> RemyNetwork
     ensures { result ≡ empty_network }
 {
-    let line = LineValues {
-        delay: 0.0,
-        rate: 1.0,
-        loss: 0.0,
-        limit: None,
-    };
-    let bits = [1; 16];
     RemyNetwork {
-        line,
+        line: LineValues {
+            delay: 0.0,
+            rate: 1.0,
+            loss: 0.0,
+            limit: None,
+        },
         back: None,
-        bits,
+        bits: [1; 16],
         senders: 0,
         on: ContinuousDistribution::Always(1.0),
         off: ContinuousDistribution::Always(1.0),

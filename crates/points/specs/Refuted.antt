@@ -10,7 +10,6 @@ use Rattle.sender.specs.declared.lossy.Policy.TheVariants.{Held}
 use Rattle.toggler.specs.Queue.{no_queued}
 use Rattle.remy.specs.declared.network.RemyNetwork.{RemyNetwork}
 use Rattle.remy.specs.declared.simulation.Mark.{Mark}
-use Rattle.remy.specs.declared.simulation.Mark.TheVariants as Mark
 use Rattle.remy.specs.declared.simulation.Simulation.{Simulation}
 use Rattle.remy.specs.declared.simulation.TickRecord.{TickRecord}
 use Rattle.remy.specs.Network.{between}
@@ -124,7 +123,7 @@ abbrev pub plan : RemyNetwork
 plan = network_with zero_f (Some 32)
 
 abbrev pub its : ℕ → Option (ℕ × ℕ)
-its m = Some (0 , m)
+its m = Some (0, m)
 
 abbrev pub note_at : Float → ℕ → Mark → Option (ℕ × ℕ) → Option (ℕ × ℕ) → TickRecord
 note_at time part mark packet started = record { time = time_of time; part = part; mark = mark; packet = packet; started = started }
@@ -300,7 +299,7 @@ nowhere = numbered_case 1 2 3 4 5 7 Mark.Counted 1
 
 -- a packet of a sender that is not there was dropped full
 abbrev pub never_sent : Case
-never_sent = case_of (ten ++ note_at three 1 Mark.Full (Some (1 , 1)) none ∷ []) tenth
+never_sent = case_of (ten ++ note_at three 1 Mark.Full (Some (1, 1)) none ∷ []) tenth
 
 -- ---- the claims
 

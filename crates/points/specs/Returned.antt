@@ -17,7 +17,6 @@ use Rattle.sender.specs.declared.lossy.SenderState.TheVariants as State
 use Rattle.toggler.specs.Queue.{no_queued}
 use Rattle.remy.specs.declared.network.RemyNetwork.{RemyNetwork}
 use Rattle.remy.specs.declared.simulation.Mark.{Mark}
-use Rattle.remy.specs.declared.simulation.Mark.TheVariants as Mark
 use Rattle.remy.specs.declared.simulation.Simulation.{Simulation}
 use Rattle.remy.specs.declared.simulation.TickRecord.{TickRecord}
 use Rattle.remy.specs.State.{has_back, line_count, Role, link, bouncer, sender, line_at, with_line, with_waiting, with_on_line, with_meter, with_queued}

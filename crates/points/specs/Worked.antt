@@ -11,7 +11,6 @@ use Rattle.sender.specs.declared.lossy.Policy.TheVariants.{Held}
 use Rattle.remy.specs.declared.network.RemyNetwork.{RemyNetwork}
 use Rattle.remy.specs.declared.simulation.Simulation.{Simulation}
 use Rattle.remy.specs.declared.simulation.Mark.{Mark}
-use Rattle.remy.specs.declared.simulation.Mark.TheVariants as Mark
 use Rattle.remy.specs.declared.simulation.TickRecord.{TickRecord}
 use Rattle.remy.specs.declared.simulation.Ticked.{Ticked}
 use Rattle.remy.specs.State.{sender_at, meter_at}
@@ -50,7 +49,7 @@ told_line time part mark packet started =
 
 -- packet i:n
 abbrev pub packet : ℕ → ℕ → Option (ℕ × ℕ)
-packet i n = Some (i , n)
+packet i n = Some (i, n)
 
 abbrev pub none : Option (ℕ × ℕ)
 none = None

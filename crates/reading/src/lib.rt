@@ -4,16 +4,10 @@
 ghost use Rattle.std.specs.Prelude.{◌≡◌};
 ghost use Rattle.reading.specs.Flow.{told_flow, flow_of};
 
-use meters::FlowRead;
+use flows::FlowProperties;
+use meters::FlowReadError;
 use quantities::Time;
 use remy::Simulation;
-
-// The flow of a sender, if it is there.
-#[derive(Clone, Copy)]
-pub enum SenderFlow {
-    NoSender,
-    Of(FlowRead),
-}
 
 // The clock.
 pub fn time(simulation: Simulation) -> Time
@@ -22,18 +16,17 @@ pub fn time(simulation: Simulation) -> Time
     simulation.head.clock
 }
 
-// The flow of sender i, read at the clock.
-pub fn average_properties(simulation: Simulation, i: u32) -> SenderFlow
+// The flow of sender i, read at the clock, or why it is not read; none where no sender i is there.
+#[tactic(auto, unfolding(crate::specs::Flow::flow_of))]
+pub fn average_properties(
+    simulation: Simulation,
+    i: u32,
+) -> Option<Result<FlowProperties, FlowReadError>>
     ensures { told_flow result ≡ flow_of simulation i }
 {
-    if i < simulation.network.senders {
-        if i < 16 {
-            let k = i as usize;
-            let meter = simulation.meters[k];
-            let clock = simulation.head.clock;
-            let read = meter.average_properties(clock);
-            return SenderFlow::Of(read);
-        }
+    if i >= simulation.network.senders || i >= 16 {
+        return None;
     }
-    SenderFlow::NoSender
+    let meter = simulation.meters[i as usize];
+    Some(meter.average_properties(simulation.head.clock))
 }

@@ -1,4 +1,4 @@
--- `builder::state::empty_simulation` meets its contract: it is the literal of the definition. Assumes nothing.
+-- `builder::state::empty_simulation` meets its contract: the callees give what it is made of. Assumes nothing.
 use lib.Ieee.{of_bits}
 use Rattle.remy.specs.Build.{empty_simulation}
 use Rattle.parts.proofs.Making.{none-senders, none-togglers}
@@ -9,9 +9,9 @@ unfolding of_bits empty_simulation
 returns c =
     rw (
       c.fresh.ensures,
-      none-senders c.no_parts-none.result _ c.no_parts-none.ensures,
-      none-togglers c.no_parts-none.result _ c.no_parts-none.ensures,
-      c.blank_words-back.ensures,
-      c.empty_words-link.ensures,
-      c.empty_network-network.ensures,
+      none-senders c.no_parts.result _ c.no_parts.ensures,
+      none-togglers c.no_parts.result _ c.no_parts.ensures,
+      c.blank_words-words.ensures,
+      c.empty_words.ensures,
+      c.empty_network.ensures,
     )
