@@ -175,7 +175,7 @@ pub fn link_acts(
     }
 }
 
-// What a place of the line holds then, made anew in each case, since `unwrap_or` copies first.
+// What a place of the line holds then, made anew in each case (`queueing::time_anew`).
 pub fn on_line_at(begun: Option<Transit>, old: Transit) -> Transit
     ensures { result ≡ on_line_at begun old }
 {
