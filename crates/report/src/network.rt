@@ -43,10 +43,11 @@ pub(crate) fn network_of(description: Description) -> RemyNetwork
         loss: from_bits(description.loss),
         limit: description.limit,
     };
+    let bits = description.bits; // the borrow checker wants an array by its own name
     RemyNetwork {
         line,
         back: None,
-        bits: description.bits,
+        bits,
         senders: description.senders,
         on: distribution_of(description.on),
         off: distribution_of(description.off),
