@@ -16,7 +16,7 @@ use denote.Struct.Field.{Field, row_field}
 use Rattle.quantities.specs.declared.time.Time.{Time}
 use Rattle.quantities.specs.NewTime.{Double}
 use Rattle.quantities.specs.contracts.time.Time as T
-use Rattle.quantities.specs.contracts.time.OptionTime as O
+use Rattle.std.specs.contracts.option.Option as O
 use Rattle.link.specs.declared.packet.Transit.{Transit}
 use Rattle.link.specs.contracts.link.Line as Line
 use Rattle.link.specs.contracts.packet.Waiting as Waiting
@@ -69,7 +69,7 @@ module _ (R : RattleType) (one : One R.mir) (n : ℕ) (xs : List R.Denot) (vs : 
 time-double : (t : Time) (vs : List Val) → Owning T.the_field t vs → Double t
 time-double t vs p = holds (fits binary64 t.0.0) p.1.1.0.1.1.0.1
 
-option_double : (o : Option Time) (vs : List Val) → Owning O.the_field o vs → IfAny Double o
+option_double : (o : Option Time) (vs : List Val) → Owning (row_field (O.the_row T.the_row)) o vs → IfAny Double o
 option_double None vs p = tt
 option_double (Some t) vs p = time-double t _ p.1.1.1.1.0
 

@@ -5,7 +5,7 @@ ghost use Rattle.std.specs.Prelude.{◌≡◌, replicate};
 ghost use Rattle.remy.specs.Run.{batch, no_noted};
 ghost use Rattle.advance.specs.Advance.{advance_of};
 
-use quantities::{Information};
+use quantities::Information;
 use queueing::Now;
 use ranges::lines::values_of;
 use remy::{Noted, Recorded, Simulation};
@@ -35,261 +35,210 @@ pub fn advance(simulation: Simulation, n: u32) -> Recorded
     };
     let mut records = [none; 256];
     let mut ripe = false;
-    while done < n {
-        if ripe {
-            let mut time = None;
-            let mut part = 0;
-            let mut k = 0;
-            while k < parts {
-                let queued = st.queue[k];
-                let own = queued.time;
-                if toggler::tick_queue::is_sooner(own, time) {
-                    time = own;
-                    part = k;
-                    k += 1;
-                } else {
-                    k += 1;
-                }
-            }
-            let best = Picked { time, part };
-            let picked = queueing::head_of(best);
-            let cleared = Queued {
-                time: None,
-            };
-            st.head = picked;
-            st.queue[part] = cleared;
-            let first_line = st.lines[0];
-            let noted = turns::noted(note, first_line);
-            let record_at = turns::record_place(done);
-            records[record_at] = noted;
-            done += 1;
-            ripe = false;
-        } else {
-            let fit = if steady { true } else { fitness::is_fit(st) };
-            let network = st.network;
-            let head = st.head;
-            let clock = head.clock;
-            let first_values = network.line;
-            let back = network.back;
-            let now = queueing::whose_turn(fit, head, network.senders, back);
-            match now {
-                Now::Stop(number) => {
-                    return Recorded {
-                        done,
-                        number,
-                        records,
-                        simulation: st,
-                    };
-                }
-                Now::Link(l) => {
-                    let line = st.lines[l];
-                    let base = 512 * l;
-                    let front_at = base + line.on_line.start;
-                    let first_at = base + line.waiting.start;
-                    let front = st.on_line[front_at];
-                    let first = st.waiting[first_at];
-                    let values = turns::values_at(network, l);
-                    let acts = turns::link_acts(values, line, clock, front, first);
-                    if acts.number != 0 {
-                        return Recorded {
-                            done,
-                            number: acts.number,
-                            records,
-                            simulation: st,
-                        };
+    let number = 'ticks: {
+        while done < n {
+            if ripe {
+                let mut best = Picked {
+                    time: None,
+                    part: 0,
+                };
+                for k in 0..parts {
+                    let time = st.queue[k].time;
+                    if toggler::tick_queue::is_sooner(time, best.time) {
+                        best = Picked { time, part: k };
                     }
-                    let left = acts.left;
-                    let begun = acts.begun;
-                    let after = acts.line;
-                    let at = base + acts.at;
-                    let front_after_at = base + after.on_line.start;
-                    let old = st.on_line[at];
-                    let new = turns::on_line_at(begun, old);
-                    let place = queueing::link_part(l, network.senders);
-                    let receiver = turns::owner(front.packet);
-                    let bits = sizes[receiver];
-                    let passing = turns::pass_on(network, l, left);
-                    match passing {
-                        Some(_) => {
-                            let second = st.lines[1];
-                            let second_values = values_of(first_values, back, 1);
-                            let limit = second_values.limit;
-                            let arrival = turns::arrive(1, limit, bits, second, passing);
-                            if arrival.number != 0 {
-                                return Recorded {
-                                    done,
-                                    number: arrival.number,
-                                    records,
-                                    simulation: st,
-                                };
+                }
+                st.head = queueing::head_of(best);
+                st.queue[best.part] = Queued { time: None };
+                let record_at = turns::record_place(done);
+                records[record_at] = turns::noted(note, st.lines[0]);
+                done += 1;
+                ripe = false;
+            } else {
+                let fit = if steady { true } else { fitness::is_fit(st) };
+                let network = st.network;
+                let clock = st.head.clock;
+                let now = queueing::whose_turn(fit, st.head, network.senders, network.back);
+                match now {
+                    Now::Stop(number) => {
+                        break 'ticks number;
+                    }
+                    Now::Link(l) => {
+                        let line = st.lines[l];
+                        let base = 512 * l;
+                        let front_at = base + line.on_line.start;
+                        let first_at = base + line.waiting.start;
+                        let front = st.on_line[front_at];
+                        let values = turns::values_at(network, l);
+                        let acts = turns::link_acts(
+                            values,
+                            line,
+                            clock,
+                            front,
+                            st.waiting[first_at],
+                        );
+                        if acts.number != 0 {
+                            break 'ticks acts.number;
+                        }
+                        let left = acts.left;
+                        let begun = acts.begun;
+                        let after = acts.line;
+                        let at = base + acts.at;
+                        let front_after_at = base + after.on_line.start;
+                        let new = turns::on_line_at(begun, st.on_line[at]);
+                        let place = queueing::link_part(l, network.senders);
+                        let receiver = turns::owner(front.packet);
+                        let bits = sizes[receiver];
+                        let passing = turns::pass_on(network, l, left);
+                        match passing {
+                            Some(_) => {
+                                let limit = values_of(network.line, network.back, 1).limit;
+                                let arrival = turns::arrive(1, limit, bits, st.lines[1], passing);
+                                if arrival.number != 0 {
+                                    break 'ticks arrival.number;
+                                }
+                                let passed = arrival.line;
+                                let waits_at = 512 + arrival.at;
+                                let waits = turns::waiting_at(
+                                    arrival.admitted,
+                                    bits,
+                                    passing,
+                                    st.waiting[waits_at],
+                                );
+                                st.lines[l] = after;
+                                st.on_line[at] = new;
+                                st.lines[1] = passed;
+                                st.waiting[waits_at] = waits;
+                                st.queue[place] = queueing::link_slot(
+                                    true,
+                                    after,
+                                    clock,
+                                    st.on_line[front_after_at],
+                                    st.queue[place],
+                                );
+                                let senders = network.senders as usize;
+                                let bouncer_place = 1 + 2 * senders;
+                                st.queue[bouncer_place] = Queued { time: None };
+                                let back_front_at = 512 + passed.on_line.start;
+                                let back_place = 2 + 2 * senders;
+                                st.queue[back_place] = queueing::link_slot(
+                                    true,
+                                    passed,
+                                    clock,
+                                    st.on_line[back_front_at],
+                                    st.queue[back_place],
+                                );
+                                note = turns::link_note(clock, place, left, begun, arrival.mark);
+                                ripe = true;
                             }
-                            let passed = arrival.line;
-                            let waits_at = 512 + arrival.at;
-                            let old_waits = st.waiting[waits_at];
-                            let waits = turns::waiting_at(
-                                arrival.admitted,
-                                bits,
-                                passing,
-                                old_waits,
-                            );
-                            st.lines[l] = after;
-                            st.on_line[at] = new;
-                            st.lines[1] = passed;
-                            st.waiting[waits_at] = waits;
-                            let front_after = st.on_line[front_after_at];
-                            let old_link = st.queue[place];
-                            let link_slot = queueing::link_slot(
-                                true,
-                                after,
-                                clock,
-                                front_after,
-                                old_link,
-                            );
-                            st.queue[place] = link_slot;
-                            let senders = network.senders as usize;
-                            let bouncer_place = 1 + 2 * senders;
-                            let no_time = Queued {
-                                time: None,
-                            };
-                            st.queue[bouncer_place] = no_time;
-                            let back_front_at = 512 + passed.on_line.start;
-                            let back_front = st.on_line[back_front_at];
-                            let back_place = 2 + 2 * senders;
-                            let old_back = st.queue[back_place];
-                            let back_slot = queueing::link_slot(
-                                true, passed, clock, back_front, old_back,
-                            );
-                            st.queue[back_place] = back_slot;
-                            let mark = arrival.mark;
-                            note = turns::link_note(clock, place, left, begun, mark);
-                            ripe = true;
-                        }
-                        None => {
-                            let sender = st.senders[receiver];
-                            let meter = st.meters[receiver];
-                            let policy = network.policy;
-                            let hearing = turns::hear(policy, bits, clock, l, left, sender, meter);
-                            let heard = hearing.sender;
-                            let counted = hearing.meter;
-                            st.lines[l] = after;
-                            st.on_line[at] = new;
-                            st.senders[receiver] = heard;
-                            st.meters[receiver] = counted;
-                            let front_after = st.on_line[front_after_at];
-                            let old_link = st.queue[place];
-                            let link_slot = queueing::link_slot(
-                                true,
-                                after,
-                                clock,
-                                front_after,
-                                old_link,
-                            );
-                            st.queue[place] = link_slot;
-                            let sender_place = 1 + 2 * receiver;
-                            let old_sender = st.queue[sender_place];
-                            let sender_slot = queueing::sender_slot(
-                                hearing.heard,
-                                heard,
-                                clock,
-                                old_sender,
-                            );
-                            st.queue[sender_place] = sender_slot;
-                            let mark = hearing.mark;
-                            note = turns::link_note(clock, place, left, begun, mark);
-                            ripe = true;
+                            None => {
+                                let hearing = turns::hear(
+                                    network.policy,
+                                    bits,
+                                    clock,
+                                    l,
+                                    left,
+                                    st.senders[receiver],
+                                    st.meters[receiver],
+                                );
+                                let heard = hearing.sender;
+                                st.lines[l] = after;
+                                st.on_line[at] = new;
+                                st.senders[receiver] = heard;
+                                st.meters[receiver] = hearing.meter;
+                                st.queue[place] = queueing::link_slot(
+                                    true,
+                                    after,
+                                    clock,
+                                    st.on_line[front_after_at],
+                                    st.queue[place],
+                                );
+                                let sender_place = 1 + 2 * receiver;
+                                st.queue[sender_place] = queueing::sender_slot(
+                                    hearing.heard,
+                                    heard,
+                                    clock,
+                                    st.queue[sender_place],
+                                );
+                                note = turns::link_note(clock, place, left, begun, hearing.mark);
+                                ripe = true;
+                            }
                         }
                     }
-                }
-                Now::Sender(i) => {
-                    let sender = st.senders[i];
-                    let acts = turns::sender_acts(network, clock, sender, i);
-                    if acts.number != 0 {
-                        return Recorded {
-                            done,
-                            number: acts.number,
-                            records,
-                            simulation: st,
-                        };
+                    Now::Sender(i) => {
+                        let acts = turns::sender_acts(network, clock, st.senders[i], i);
+                        if acts.number != 0 {
+                            break 'ticks acts.number;
+                        }
+                        let sending = acts.sending;
+                        let sent = acts.sender;
+                        let bits = sizes[i];
+                        let limit = network.line.limit;
+                        let arrival = turns::arrive(0, limit, bits, st.lines[0], sending);
+                        if arrival.number != 0 {
+                            break 'ticks arrival.number;
+                        }
+                        let after = arrival.line;
+                        let at = arrival.at;
+                        let new = turns::waiting_at(
+                            arrival.admitted,
+                            bits,
+                            sending,
+                            st.waiting[at],
+                        );
+                        st.lines[0] = after;
+                        st.waiting[at] = new;
+                        st.senders[i] = sent;
+                        let place = 1 + 2 * i;
+                        st.queue[place] = queueing::sender_slot(true, sent, clock, st.queue[place]);
+                        let front_after_at = after.on_line.start;
+                        st.queue[0] = queueing::link_slot(
+                            arrival.arrives,
+                            after,
+                            clock,
+                            st.on_line[front_after_at],
+                            st.queue[0],
+                        );
+                        note = turns::sender_note(clock, i, sending, arrival.mark);
+                        ripe = true;
                     }
-                    let sending = acts.sending;
-                    let sent = acts.sender;
-                    let line = st.lines[0];
-                    let limit = first_values.limit;
-                    let bits = sizes[i];
-                    let arrival = turns::arrive(0, limit, bits, line, sending);
-                    if arrival.number != 0 {
-                        return Recorded {
-                            done,
-                            number: arrival.number,
-                            records,
-                            simulation: st,
-                        };
+                    Now::Toggler(i) => {
+                        let toggle = st.togglers[i].toggle(clock, network.on, network.off);
+                        if toggle.number != 0 {
+                            break 'ticks toggle.number;
+                        }
+                        let toggled = toggle.toggler;
+                        let policy = network.policy;
+                        let switched = turns::switched(
+                            policy,
+                            toggled.enabled,
+                            st.senders[i],
+                            clock,
+                        );
+                        let switching = lent::switch_lending(st.meters[i], toggled.enabled, clock);
+                        st.togglers[i] = toggled;
+                        st.senders[i] = switched;
+                        st.meters[i] = switching.meter;
+                        let toggler_place = 2 + 2 * i;
+                        st.queue[toggler_place] = queueing::toggler_slot(toggled);
+                        let place = 1 + 2 * i;
+                        st.queue[place] = queueing::sender_slot(
+                            true,
+                            switched,
+                            clock,
+                            st.queue[place],
+                        );
+                        note = turns::toggler_note(clock, i, toggled.enabled);
+                        ripe = true;
                     }
-                    let after = arrival.line;
-                    let at = arrival.at;
-                    let old = st.waiting[at];
-                    let new = turns::waiting_at(arrival.admitted, bits, sending, old);
-                    st.lines[0] = after;
-                    st.waiting[at] = new;
-                    st.senders[i] = sent;
-                    let place = 1 + 2 * i;
-                    let old_sender = st.queue[place];
-                    let sender_slot = queueing::sender_slot(true, sent, clock, old_sender);
-                    st.queue[place] = sender_slot;
-                    let front_after_at = after.on_line.start;
-                    let front_after = st.on_line[front_after_at];
-                    let old_link = st.queue[0];
-                    let link_slot = queueing::link_slot(
-                        arrival.arrives,
-                        after,
-                        clock,
-                        front_after,
-                        old_link,
-                    );
-                    st.queue[0] = link_slot;
-                    let mark = arrival.mark;
-                    note = turns::sender_note(clock, i, sending, mark);
-                    ripe = true;
-                }
-                Now::Toggler(i) => {
-                    let toggler = st.togglers[i];
-                    let on = network.on;
-                    let off = network.off;
-                    let toggle = toggler.toggle(clock, on, off);
-                    if toggle.number != 0 {
-                        return Recorded {
-                            done,
-                            number: toggle.number,
-                            records,
-                            simulation: st,
-                        };
-                    }
-                    let toggled = toggle.toggler;
-                    let policy = network.policy;
-                    let sender = st.senders[i];
-                    let meter = st.meters[i];
-                    let switched = turns::switched(policy, toggled.enabled, sender, clock);
-                    let switching = lent::switch_lending(meter, toggled.enabled, clock);
-                    let metered = switching.meter;
-                    st.togglers[i] = toggled;
-                    st.senders[i] = switched;
-                    st.meters[i] = metered;
-                    let toggler_place = 2 + 2 * i;
-                    let toggler_slot = queueing::toggler_slot(toggled);
-                    st.queue[toggler_place] = toggler_slot;
-                    let place = 1 + 2 * i;
-                    let old_sender = st.queue[place];
-                    let sender_slot = queueing::sender_slot(true, switched, clock, old_sender);
-                    st.queue[place] = sender_slot;
-                    note = turns::toggler_note(clock, i, toggled.enabled);
-                    ripe = true;
                 }
             }
         }
-    }
+        0
+    };
     Recorded {
         done,
-        number: 0,
+        number,
         records,
         simulation: st,
     }

@@ -19,15 +19,12 @@ use remy::{Ran, Recorded, Simulation, Ticked};
 pub fn tick(simulation: Simulation) -> Ticked
     ensures { (result ≡ tick_of simulation) × TickAccount simulation result × TickNumber result.number × NeverBack simulation × (run_of 1 simulation ≡ as_run result) × JoinsOn 1 simulation (as_run result) }
 {
-    let a = advance::advance(simulation, 1);
-    let first = a.records[0];
-    let note = first.note;
-    let after = a.simulation;
+    let one = advance::advance(simulation, 1);
     Ticked {
-        number: a.number,
-        moved: a.done == 1,
-        note,
-        simulation: after,
+        number: one.number,
+        moved: one.done == 1,
+        note: one.records[0].note,
+        simulation: one.simulation,
     }
 }
 
@@ -35,20 +32,12 @@ pub fn tick(simulation: Simulation) -> Ticked
 pub fn run(simulation: Simulation, n: u32) -> Ran
     ensures { (result ≡ run_of n simulation) × RunAccount simulation result × TickNumber result.number × NeverBack simulation × TickByTick n simulation result × JoinsOn n simulation result }
 {
-    let a = advance::advance(simulation, n);
-    let last = a.simulation;
+    let ran = advance::advance(simulation, n);
     Ran {
-        done: a.done,
-        number: a.number,
-        simulation: last,
+        done: ran.done,
+        number: ran.number,
+        simulation: ran.simulation,
     }
-}
-
-// As many ticks as are asked for, 256 at most: the loop has places for as many records.
-fn batch_of(n: u32) -> u32
-    ensures { result ≡ batch_of n }
-{
-    if n < 256 { n } else { 256 }
 }
 
 // A run of n ticks, 256 at most, with their records: one for each tick that was done, from the first
@@ -57,7 +46,6 @@ fn batch_of(n: u32) -> u32
 pub fn records(simulation: Simulation, n: u32) -> Recorded
     ensures { (result ≡ records_of n simulation) × RecordsAccount simulation result × TickNumber result.number × NeverBack simulation × TickByTick (batch_of n) simulation (ran_of result) × JoinsOn (batch_of n) simulation (ran_of result) }
 {
-    let most = batch_of(n);
-    let a = advance::advance(simulation, most);
-    a
+    let most = n.min(256);
+    advance::advance(simulation, most)
 }

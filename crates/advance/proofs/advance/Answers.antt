@@ -15,7 +15,7 @@ use Rattle.toggler.proofs.Pick.{NoneFrom, takes, keeps, finished}
 use Rattle.remy.specs.declared.network.RemyNetwork.{RemyNetwork}
 use Rattle.remy.specs.declared.simulation.Simulation.{Simulation}
 use Rattle.remy.specs.declared.simulation.TickRecord.{TickRecord}
-use Rattle.remy.specs.State.{has_back, values_of, link, sender, toggler, no_waiting, line_at, sender_at, meter_at, front_of, first_of, sender_bits}
+use Rattle.remy.specs.State.{has_back, line_count, values_of, link, sender, toggler, no_waiting, line_at, sender_at, meter_at, front_of, first_of, sender_bits}
 use Rattle.remy.specs.HeldTimes.{Full}
 use Rattle.remy.specs.Queue.{picked}
 use Rattle.remy.specs.Run.{batch, no_noted}
@@ -33,7 +33,7 @@ use Rattle.advance.proofs.Types.{typed}
 use Rattle.advance.proofs.Ticks.{parts_of, begins, Due, Ripe, Kept, ends, ends_kept, ripens, ripe_full, picked-due, waits, moving, room, senders_few}
 use Rattle.advance.proofs.Loop.{LinkTurn, Turn, first-line, no_turn, link_turn, sender_turn, toggler_turn, owner-small, link_at, link_start, arrive_at, arrive_start, second_line, passes_room, pass_stopped, pass_stored, pass_none, home_stored, home_none, sender-stored, sender-none, toggler_stored, toggler_none}
 use Rattle.advance.proofs.advance.Goals as goal
-use Rattle.advance.proofs.advance.Goals.{After-arrive-arrival, After-arrive-arrival-in-Sender, After-hear-hearing, After-link_acts-acts, After-link_part-place, After-loop-k, After-owner-receiver, After-waiting_at-new, After-waiting_at-waits, After-whose_turn-now, Else-ripe, In-Link, In-Packet, In-Sender, In-Toggler, Joined-steady, Then-ripe, then-steady, else-steady}
+use Rattle.advance.proofs.advance.Goals.{After-arrive-arrival, After-arrive-arrival-in-Sender, After-hear-hearing, After-link_acts-acts, After-link_part-place, After-loop-k, After-owner-receiver, After-waiting_at-new, After-waiting_at-waits, After-whose_turn-now, Else-ripe, In-Link, In-Some, In-Sender, In-Toggler, Joined-steady, Then-ripe, then-steady, else-steady}
 
 due-at : (p : Else-ripe) → Due (advance_of p.args.n 0 (replicate batch no_noted) p.args.simulation) p.is_steady-steady.result p.args.n p.loop-done.done p.loop-done.records p.loop-done.st
 due-at p =
@@ -46,13 +46,13 @@ ripe-at p =
     subst (λ (b : Bool). Kept b (advance_of p.args.n 0 (replicate batch no_noted) p.args.simulation) p.is_steady-steady.result p.args.n p.part_count-parts.result l.done l.records l.note l.st) p.if-ripe.true l.invariant.1
 
 -- what was looked at holds the pick, once all parts were
-best-known : (p : After-loop-k) → record { time = p.loop-k.time; part = p.loop-k.part } ≡ pick_of p.loop-done.st.queue
+best-known : (p : After-loop-k) → p.loop-k.best ≡ pick_of p.loop-done.st.queue
 best-known p =
     let m = p.loop-k in
-    finished p.loop-done.st.queue m.k (record { time = m.time; part = m.part }) (λ j h. (ripe-at p.before.before).none j (omega (arith, p.loop-k-test.false, h))) ∙ m.invariant.1
+    finished p.loop-done.st.queue m.k m.best (λ j h. (ripe-at p.before.before).none j (omega (arith, p.loop-k-test.false, h))) ∙ m.invariant.2
 
-best-inside : (p : After-loop-k) → p.loop-k.part < queue_places
-best-inside p = place_inside p.loop-done.st.queue _ (best-known p) (ripe_full _ _ _ _ _ _ _ _ (ripe-at p.before.before))
+best-inside : (p : After-loop-k) → p.loop-k.best.part < queue_places
+best-inside p = place_inside p.loop-done.st.queue _ (best-known p) p.loop-k.invariant.1
 
 -- the test of the state, or a steady state
 fit-known : (p : Joined-steady) → p.if-steady.fit ≡ fit p.loop-done.st
@@ -63,12 +63,44 @@ fit-known p =
       | else-steady w ↦ w.fit-is ∙ w.is_fit-fit.ensures
     ]
 
+-- ---- from a point of the code to an earlier one
+
+abbrev turn-fit : (p : After-whose_turn-now) → Joined-steady
+turn-fit p = p.before.before.before.before
+
+abbrev acts-link : (p : After-link_acts-acts) → In-Link
+acts-link p = p.before.before.before.before.before.before.before
+
+abbrev place-link : (p : After-link_part-place) → In-Link
+place-link p = p.before.before.before.before.before.before.before.before.before.before.before.before.before.before.before
+
+abbrev owner-link : (p : After-owner-receiver) → In-Link
+owner-link p = p.before.before.before.before.before.before.before.before.before.before.before.before.before.before.before.before.before
+
+abbrev pass-acts : (p : In-Some) → After-link_acts-acts
+pass-acts p = p.before.before.before.before.before.before.before.before.before.before.before.before
+
+abbrev back-pass : (p : After-arrive-arrival) → In-Some
+back-pass p = p.before.before.before.before
+
+abbrev waits-pass : (p : After-waiting_at-waits) → In-Some
+waits-pass p = p.before.before.before.before.before.before.before.before.before.before
+
+abbrev hear-link : (p : After-hear-hearing) → In-Link
+hear-link p = p.before.before.before.before.before.before.before.before.before.before.before.before.before.before.before.before.before.before.before.before.before.before
+
+abbrev arrive-sender : (p : After-arrive-arrival-in-Sender) → In-Sender
+arrive-sender p = p.before.before.before.before.before.before.before.before
+
+abbrev new-sender : (p : After-waiting_at-new) → In-Sender
+new-sender p = p.before.before.before.before.before.before.before.before.before.before.before.before.before
+
 -- the state that the turn begins with
 abbrev now_at : (p : After-whose_turn-now) → Simulation
 now_at p = p.loop-done.st
 
 full_at : (p : After-whose_turn-now) → Full (now_at p)
-full_at p = (due-at p.before.before.before.before.before.before).typed.full
+full_at p = (due-at (turn-fit p).before).typed.full
 
 -- the packet bits of a sender, as they are read from the copy
 bits-known : (p : After-whose_turn-now) (i : ℕ) → get_or p.args.simulation.network.bits i 0 ≡ (sender_bits (now_at p).network i).0
@@ -79,13 +111,13 @@ abbrev line-at : (p : In-Link) → ℕ
 line-at p = p.in-Link.l
 
 link-known : (p : In-Link) → LinkTurn (now_at p.before) (line-at p)
-link-known p = link_turn (now_at p.before) _ (fit-known p.before.before.before.before.before.before) p.whose_turn-now.result p.whose_turn-now.ensures _ p.in-Link.is
+link-known p = link_turn (now_at p.before) _ (fit-known (turn-fit p.before)) p.whose_turn-now.result p.whose_turn-now.ensures _ p.in-Link.is
 
 sender-known : (p : In-Sender) → Turn (now_at p.before) (sender p.in-Sender.i) p.in-Sender.i
-sender-known p = sender_turn (now_at p.before) _ (fit-known p.before.before.before.before.before.before) p.whose_turn-now.result p.whose_turn-now.ensures _ p.in-Sender.is
+sender-known p = sender_turn (now_at p.before) _ (fit-known (turn-fit p.before)) p.whose_turn-now.result p.whose_turn-now.ensures _ p.in-Sender.is
 
 toggler-known : (p : In-Toggler) → Turn (now_at p.before) (toggler p.in-Toggler.i) p.in-Toggler.i
-toggler-known p = toggler_turn (now_at p.before) _ (fit-known p.before.before.before.before.before.before) p.whose_turn-now.result p.whose_turn-now.ensures _ p.in-Toggler.is
+toggler-known p = toggler_turn (now_at p.before) _ (fit-known (turn-fit p.before)) p.whose_turn-now.result p.whose_turn-now.ensures _ p.in-Toggler.is
 
 -- its rings
 line-waits : (p : In-Link) → Sound (now_at p.before).waiting (line-at p) (line_at (now_at p.before) (line-at p)).waiting
@@ -96,72 +128,84 @@ line-moving p = moving (now_at p.before) (link-known p).fits (full_at p.before) 
 
 -- what it does, by the values of its line
 acts-known : (p : After-link_acts-acts) →
-    let s = now_at p.before.before.before.before.before.before.before.before in
-    p.link_acts-acts.result ≡ link_acted (link_values (values_of s.network (line-at p.before.before.before.before.before.before.before))) (line_at s (line-at p.before.before.before.before.before.before.before)) s.head.clock (front_of s (line-at p.before.before.before.before.before.before.before)) (first_of s (line-at p.before.before.before.before.before.before.before))
+    let s = now_at (acts-link p).before in
+    let l = line-at (acts-link p) in
+    p.link_acts-acts.result ≡ link_acted (link_values (values_of s.network l)) (line_at s l) s.head.clock (front_of s l) (first_of s l)
 acts-known p =
-    let s = now_at p.before.before.before.before.before.before.before.before in
-    let l = line-at p.before.before.before.before.before.before.before in
+    let s = now_at (acts-link p).before in
+    let l = line-at (acts-link p) in
     p.link_acts-acts.ensures ∙ ap (λ (v : LinkValues). link_acted v (line_at s l) s.head.clock (front_of s l) (first_of s l)) p.values_at-values.ensures
 
 link-place : (p : After-link_acts-acts) → p.link_acts-acts.result.at < places
 link-place p = link_at _ _ _ _ _ p.link_acts-acts.result p.link_acts-acts.ensures
 
 link-front : (p : After-link_acts-acts) → p.link_acts-acts.result.line.on_line.start < places
-link-front p = link_start _ _ _ _ _ p.link_acts-acts.result p.link_acts-acts.ensures (line-moving p.before.before.before.before.before.before.before).start (line-moving p.before.before.before.before.before.before.before).count
+link-front p = let ring = line-moving (acts-link p) in link_start _ _ _ _ _ p.link_acts-acts.result p.link_acts-acts.ensures ring.start ring.count
 
 part-known : (p : After-link_part-place) → p.link_part-place.result < queue_places
 part-known p =
-    let s = now_at p.before.before.before.before.before.before.before.before.before.before.before.before.before.before.before.before in
-    let t = link-known p.before.before.before.before.before.before.before.before.before.before.before.before.before.before.before in
-    subst (λ (k : ℕ). k < queue_places) (sym p.link_part-place.ensures) (part_inside s.network (link (line-at p.before.before.before.before.before.before.before.before.before.before.before.before.before.before.before)) t.few t.there)
+    let s = now_at (place-link p).before in
+    let t = link-known (place-link p) in
+    subst (λ (k : ℕ). k < queue_places) (sym p.link_part-place.ensures) (part_inside s.network (link (line-at (place-link p))) t.few t.there)
 
 owner-known : (p : After-owner-receiver) → p.owner-receiver.result < 16
-owner-known p = owner-small (front_of (now_at p.before.before.before.before.before.before.before.before.before.before.before.before.before.before.before.before.before.before) (line-at p.before.before.before.before.before.before.before.before.before.before.before.before.before.before.before.before.before)).packet p.owner-receiver.result p.owner-receiver.ensures
+owner-known p = owner-small (front_of (now_at (owner-link p).before) (line-at (owner-link p))).packet p.owner-receiver.result p.owner-receiver.ensures
 
 -- a packet is passed on: the rings and the room of the return line
-second-waits : (p : In-Packet) → Sound (now_at p.before.before.before.before.before.before.before.before.before.before.before.before.before.before.before.before.before.before.before.before).waiting 1 (line_at (now_at p.before.before.before.before.before.before.before.before.before.before.before.before.before.before.before.before.before.before.before.before) 1).waiting
-second-waits p = waits (now_at p.before.before.before.before.before.before.before.before.before.before.before.before.before.before.before.before.before.before.before.before) (link-known p.before.before.before.before.before.before.before.before.before.before.before.before.before.before.before.before.before.before.before).fits (full_at p.before.before.before.before.before.before.before.before.before.before.before.before.before.before.before.before.before.before.before.before) 1 (second_line (now_at p.before.before.before.before.before.before.before.before.before.before.before.before.before.before.before.before.before.before.before.before) (full_at p.before.before.before.before.before.before.before.before.before.before.before.before.before.before.before.before.before.before.before.before) (line-at p.before.before.before.before.before.before.before.before.before.before.before.before.before.before.before.before.before.before.before) (link-known p.before.before.before.before.before.before.before.before.before.before.before.before.before.before.before.before.before.before.before) p.owner-receiver.result p.owner-receiver.ensures p.link_acts-acts.result (acts-known p.before.before.before.before.before.before.before.before.before.before.before.before) p.pass_on-passing.result p.pass_on-passing.ensures _ p.in-Packet.is)
+abbrev pass-link : (p : In-Some) → In-Link
+pass-link p = acts-link (pass-acts p)
 
-second-moving : (p : In-Packet) → Sound (now_at p.before.before.before.before.before.before.before.before.before.before.before.before.before.before.before.before.before.before.before.before).on_line 1 (line_at (now_at p.before.before.before.before.before.before.before.before.before.before.before.before.before.before.before.before.before.before.before.before) 1).on_line
-second-moving p = moving (now_at p.before.before.before.before.before.before.before.before.before.before.before.before.before.before.before.before.before.before.before.before) (link-known p.before.before.before.before.before.before.before.before.before.before.before.before.before.before.before.before.before.before.before).fits (full_at p.before.before.before.before.before.before.before.before.before.before.before.before.before.before.before.before.before.before.before.before) 1 (second_line (now_at p.before.before.before.before.before.before.before.before.before.before.before.before.before.before.before.before.before.before.before.before) (full_at p.before.before.before.before.before.before.before.before.before.before.before.before.before.before.before.before.before.before.before.before) (line-at p.before.before.before.before.before.before.before.before.before.before.before.before.before.before.before.before.before.before.before) (link-known p.before.before.before.before.before.before.before.before.before.before.before.before.before.before.before.before.before.before.before) p.owner-receiver.result p.owner-receiver.ensures p.link_acts-acts.result (acts-known p.before.before.before.before.before.before.before.before.before.before.before.before) p.pass_on-passing.result p.pass_on-passing.ensures _ p.in-Packet.is)
+abbrev pass-state : (p : In-Some) → Simulation
+pass-state p = now_at (pass-link p).before
 
-second-room : (p : In-Packet) → (line_at (now_at p.before.before.before.before.before.before.before.before.before.before.before.before.before.before.before.before.before.before.before.before) 1).buffer_contains.0 + (sender_bits (now_at p.before.before.before.before.before.before.before.before.before.before.before.before.before.before.before.before.before.before.before.before).network p.owner-receiver.result).0 < 2 ^ 64
-second-room p = passes_room (now_at p.before.before.before.before.before.before.before.before.before.before.before.before.before.before.before.before.before.before.before.before) (full_at p.before.before.before.before.before.before.before.before.before.before.before.before.before.before.before.before.before.before.before.before) (line-at p.before.before.before.before.before.before.before.before.before.before.before.before.before.before.before.before.before.before.before) (link-known p.before.before.before.before.before.before.before.before.before.before.before.before.before.before.before.before.before.before.before) p.owner-receiver.result p.owner-receiver.ensures p.link_acts-acts.result (acts-known p.before.before.before.before.before.before.before.before.before.before.before.before) p.pass_on-passing.result p.pass_on-passing.ensures _ p.in-Packet.is
+second-there : (p : In-Some) → 1 < line_count (pass-state p).network
+second-there p =
+    second_line (pass-state p) (full_at (pass-link p).before) (line-at (pass-link p)) (link-known (pass-link p)) p.owner-receiver.result p.owner-receiver.ensures p.link_acts-acts.result (acts-known (pass-acts p)) p.pass_on-passing.result p.pass_on-passing.ensures _ p.in-Some.is
+
+second-waits : (p : In-Some) → Sound (pass-state p).waiting 1 (line_at (pass-state p) 1).waiting
+second-waits p = waits (pass-state p) (link-known (pass-link p)).fits (full_at (pass-link p).before) 1 (second-there p)
+
+second-moving : (p : In-Some) → Sound (pass-state p).on_line 1 (line_at (pass-state p) 1).on_line
+second-moving p = moving (pass-state p) (link-known (pass-link p)).fits (full_at (pass-link p).before) 1 (second-there p)
+
+second-room : (p : In-Some) → (line_at (pass-state p) 1).buffer_contains.0 + (sender_bits (pass-state p).network p.owner-receiver.result).0 < 2 ^ 64
+second-room p =
+    passes_room (pass-state p) (full_at (pass-link p).before) (line-at (pass-link p)) (link-known (pass-link p)) p.owner-receiver.result p.owner-receiver.ensures p.link_acts-acts.result (acts-known (pass-acts p)) p.pass_on-passing.result p.pass_on-passing.ensures _ p.in-Some.is
 
 -- what comes of it there, with its sender's bits
 passed-known : (p : After-arrive-arrival) →
-    let s = now_at p.before.before.before.before.before.before.before.before.before.before.before.before.before.before.before.before.before.before.before.before.before.before.before in
+    let s = pass-state (back-pass p) in
     p.arrive-arrival.result ≡ arrived_at 1 (values_of s.network 1).limit (sender_bits s.network p.owner-receiver.result).0 (line_at s 1) p.pass_on-passing.result
 passed-known p =
-    let s = now_at p.before.before.before.before.before.before.before.before.before.before.before.before.before.before.before.before.before.before.before.before.before.before.before in
+    let s = pass-state (back-pass p) in
     p.arrive-arrival.ensures
-    ∙ ap (λ (v : LineValues). arrived_at 1 v.limit (get_or p.args.simulation.network.bits p.owner-receiver.result 0) (line_at s 1) p.pass_on-passing.result) p.values_of-second_values.ensures
-    ∙ ap (λ (b : ℕ). arrived_at 1 (values_of s.network 1).limit b (line_at s 1) p.pass_on-passing.result) (bits-known p.before.before.before.before.before.before.before.before.before.before.before.before.before.before.before.before.before.before.before.before.before.before.before _)
+    ∙ ap (λ (v : LineValues). arrived_at 1 v.limit (get_or p.args.simulation.network.bits p.owner-receiver.result 0) (line_at s 1) p.pass_on-passing.result) p.values_of-limit.ensures
+    ∙ ap (λ (b : ℕ). arrived_at 1 (values_of s.network 1).limit b (line_at s 1) p.pass_on-passing.result) (bits-known (pass-link (back-pass p)).before _)
 
 pass-place : (p : After-arrive-arrival) → p.arrive-arrival.result.at < places
 pass-place p = arrive_at _ _ _ _ p.pass_on-passing.result p.arrive-arrival.result p.arrive-arrival.ensures
 
 pass-front : (p : After-arrive-arrival) → p.arrive-arrival.result.line.on_line.start < places
-pass-front p = arrive_start _ _ _ _ p.pass_on-passing.result p.arrive-arrival.result p.arrive-arrival.ensures (second-moving p.before.before.before).start
+pass-front p = arrive_start _ _ _ _ p.pass_on-passing.result p.arrive-arrival.result p.arrive-arrival.ensures (second-moving (back-pass p)).start
 
 pass-waits : (p : After-waiting_at-waits) →
-    let s = now_at p.before.before.before.before.before.before.before.before.before.before.before.before.before.before.before.before.before.before.before.before.before.before.before.before.before.before.before.before.before in
+    let s = pass-state (waits-pass p) in
     let a = p.arrive-arrival.result in
     p.waiting_at-waits.result ≡ waiting_at a.admitted (sender_bits s.network p.owner-receiver.result).0 p.pass_on-passing.result (get_or s.waiting (places + a.at) no_waiting)
 pass-waits p =
-    let s = now_at p.before.before.before.before.before.before.before.before.before.before.before.before.before.before.before.before.before.before.before.before.before.before.before.before.before.before.before.before.before in
+    let s = pass-state (waits-pass p) in
     let a = p.arrive-arrival.result in
-    p.waiting_at-waits.ensures ∙ ap (λ (b : ℕ). waiting_at a.admitted b p.pass_on-passing.result (get_or s.waiting (places + a.at) no_waiting)) (bits-known p.before.before.before.before.before.before.before.before.before.before.before.before.before.before.before.before.before.before.before.before.before.before.before.before.before.before.before.before.before _)
+    p.waiting_at-waits.ensures ∙ ap (λ (b : ℕ). waiting_at a.admitted b p.pass_on-passing.result (get_or s.waiting (places + a.at) no_waiting)) (bits-known (pass-link (waits-pass p)).before _)
 
 -- a packet comes to its sender, with its bits
 heard-known : (p : After-hear-hearing) →
-    let s = now_at p.before.before.before.before.before.before.before.before.before.before.before.before.before.before.before.before.before.before.before.before.before.before.before in
+    let s = now_at (hear-link p).before in
     let k = p.owner-receiver.result in
-    p.hear-hearing.result ≡ heard_by s.network.policy (sender_bits s.network k).0 s.head.clock (line-at p.before.before.before.before.before.before.before.before.before.before.before.before.before.before.before.before.before.before.before.before.before.before) p.link_acts-acts.result.left (sender_at s k) (meter_at s k)
+    p.hear-hearing.result ≡ heard_by s.network.policy (sender_bits s.network k).0 s.head.clock (line-at (hear-link p)) p.link_acts-acts.result.left (sender_at s k) (meter_at s k)
 heard-known p =
-    let s = now_at p.before.before.before.before.before.before.before.before.before.before.before.before.before.before.before.before.before.before.before.before.before.before.before in
+    let s = now_at (hear-link p).before in
     let k = p.owner-receiver.result in
-    p.hear-hearing.ensures ∙ ap (λ (b : ℕ). heard_by s.network.policy b s.head.clock (line-at p.before.before.before.before.before.before.before.before.before.before.before.before.before.before.before.before.before.before.before.before.before.before) p.link_acts-acts.result.left (sender_at s k) (meter_at s k)) (bits-known p.before.before.before.before.before.before.before.before.before.before.before.before.before.before.before.before.before.before.before.before.before.before.before k)
+    p.hear-hearing.ensures ∙ ap (λ (b : ℕ). heard_by s.network.policy b s.head.clock (line-at (hear-link p)) p.link_acts-acts.result.left (sender_at s k) (meter_at s k)) (bits-known (hear-link p).before k)
 
 -- a sender's turn: the rings and the room of the first line
 first-waits : (p : In-Sender) → Sound (now_at p.before).waiting 0 (line_at (now_at p.before) 0).waiting
@@ -177,28 +221,28 @@ arrive-place : (p : After-arrive-arrival-in-Sender) → p.arrive-arrival-in-Send
 arrive-place p = arrive_at _ _ _ _ p.sender_acts-acts.result.sending p.arrive-arrival-in-Sender.result p.arrive-arrival-in-Sender.ensures
 
 arrive-front : (p : After-arrive-arrival-in-Sender) → p.arrive-arrival-in-Sender.result.line.on_line.start < places
-arrive-front p = arrive_start _ _ _ _ p.sender_acts-acts.result.sending p.arrive-arrival-in-Sender.result p.arrive-arrival-in-Sender.ensures (first-moving p.before.before.before.before.before.before.before).start
+arrive-front p = arrive_start _ _ _ _ p.sender_acts-acts.result.sending p.arrive-arrival-in-Sender.result p.arrive-arrival-in-Sender.ensures (first-moving (arrive-sender p)).start
 
 arrived-known : (p : After-arrive-arrival-in-Sender) →
-    let s = now_at p.before.before.before.before.before.before.before.before in
+    let s = now_at (arrive-sender p).before in
     p.arrive-arrival-in-Sender.result ≡ arrived_at 0 s.network.line.limit (sender_bits s.network p.in-Sender.i).0 (line_at s 0) p.sender_acts-acts.result.sending
 arrived-known p =
-    let s = now_at p.before.before.before.before.before.before.before.before in
-    p.arrive-arrival-in-Sender.ensures ∙ ap (λ (b : ℕ). arrived_at 0 s.network.line.limit b (line_at s 0) p.sender_acts-acts.result.sending) (bits-known p.before.before.before.before.before.before.before.before _)
+    let s = now_at (arrive-sender p).before in
+    p.arrive-arrival-in-Sender.ensures ∙ ap (λ (b : ℕ). arrived_at 0 s.network.line.limit b (line_at s 0) p.sender_acts-acts.result.sending) (bits-known (arrive-sender p).before _)
 
 waits-known : (p : After-waiting_at-new) →
-    let s = now_at p.before.before.before.before.before.before.before.before.before.before.before.before.before in
+    let s = now_at (new-sender p).before in
     let a = p.arrive-arrival-in-Sender.result in
     p.waiting_at-new.result ≡ waiting_at a.admitted (sender_bits s.network p.in-Sender.i).0 p.sender_acts-acts.result.sending (get_or s.waiting a.at no_waiting)
 waits-known p =
-    let s = now_at p.before.before.before.before.before.before.before.before.before.before.before.before.before in
+    let s = now_at (new-sender p).before in
     let a = p.arrive-arrival-in-Sender.result in
-    p.waiting_at-new.ensures ∙ ap (λ (b : ℕ). waiting_at a.admitted b p.sender_acts-acts.result.sending (get_or s.waiting a.at no_waiting)) (bits-known p.before.before.before.before.before.before.before.before.before.before.before.before.before _)
+    p.waiting_at-new.ensures ∙ ap (λ (b : ℕ). waiting_at a.admitted b p.sender_acts-acts.result.sending (get_or s.waiting a.at no_waiting)) (bits-known (new-sender p).before _)
 
 -- the tick is refused or idle: the loop ends
 stopped : (p : After-whose_turn-now) (k : ℕ) → tick_of (now_at p) ≡ unmoved (now_at p) k
     → record { done = p.loop-done.done; number = k; records = p.loop-done.records; simulation = now_at p } ≡ (advance_of p.args.n 0 (replicate batch no_noted) p.args.simulation)
-stopped p k t = ends _ _ _ _ _ (now_at p) (due-at p.before.before.before.before.before.before) p.loop-done-test.true k t
+stopped p k t = ends _ _ _ _ _ (now_at p) (due-at (turn-fit p).before) p.loop-done-test.true k t
 
 -- the tick moves: the state is ripe
 moved : (p : After-whose_turn-now) (x : TickRecord) (m : Simulation) → tick_of (now_at p) ≡ ticked (now_at p) (moves x (picked m)) → (now_at p).network ≡ m.network
@@ -211,7 +255,7 @@ moved p x m t same few none =
     let l = p.loop-done in
     let places : p.part_count-parts.result ≡ parts_of l.st.network = l.invariant.3 in (
       l.invariant.0,
-      ripens _ _ _ _ _ l.st (due-at p.before.before.before.before.before.before) p.loop-done-test.true _ (subst (λ (k : ℕ). k ≤ queue_places) (sym places) (parts_few l.st.network.senders (has_back l.st.network.back) few)) x m t (subst (λ (k : ℕ). NoneFrom k m.queue) (sym places) none),
+      ripens _ _ _ _ _ l.st (due-at (turn-fit p).before) p.loop-done-test.true _ (subst (λ (k : ℕ). k ≤ queue_places) (sym places) (parts_few l.st.network.senders (has_back l.st.network.back) few)) x m t (subst (λ (k : ℕ). NoneFrom k m.queue) (sym places) none),
       l.invariant.2 ∙ ap (λ (n : RemyNetwork). n.bits) same,
       places ∙ ap parts_of same,
     )
@@ -232,70 +276,21 @@ loop-done-init c =
 
 pub loop-k-init : goal.loop-k-init
 unfolding pick_of
-loop-k-init c = (omega arith, refl)
+loop-k-init c =
+    let ripe = ripe-at (goal.at.loop-k-init c).Then-ripe in
+    (ripe.few, ripe_full _ _ _ _ _ _ _ _ ripe, refl)
 
-pub offset_bounds-st-k : goal.offset_bounds-st-k
-offset_bounds-st-k c = let few = (ripe-at (goal.at.offset_bounds-st-k c).Then-ripe).few in omega (arith, few, c.loop-k-test.true)
+pub offset_bounds-st-best : goal.offset_bounds-st-best
+offset_bounds-st-best c = let inside = best-inside (goal.at.offset_bounds-st-best c).After-loop-k in omega (arith, inside)
 
-pub bounds-st-k : goal.bounds-st-k
-bounds-st-k c = let few = (ripe-at (goal.at.bounds-st-k c).Then-ripe).few in omega (arith, few, c.loop-k-test.true)
-
-pub overflow_add-k : goal.overflow_add-k
-overflow_add-k c = let few = (ripe-at (goal.at.overflow_add-k c).Then-ripe).few in omega (arith, few, c.loop-k-test.true)
-
-pub loop-k-smaller-then-is_sooner : goal.loop-k-smaller-then-is_sooner
-loop-k-smaller-then-is_sooner c = omega (arith, c.loop-k-test.true)
-
-pub loop-k-preserved-then-is_sooner : goal.loop-k-preserved-then-is_sooner
-loop-k-preserved-then-is_sooner c =
-    let m = c.loop-k in
-    let queue = c.loop-done.st.queue in
-    let more : m.k < c.part_count-parts.result = c.loop-k-test.true in
-    let few = (ripe-at (goal.at.loop-k-preserved-then-is_sooner c).Then-ripe).few in
-    let full : length queue ≡ queue_places = ripe_full _ _ _ _ _ _ _ _ (ripe-at (goal.at.loop-k-preserved-then-is_sooner c).Then-ripe) in
-    (omega (arith, more), takes queue m.time m.part m.k (omega (arith, full, few, more)) (sym c.is_sooner.ensures ∙ c.if-is_sooner.true) ∙ m.invariant.1)
-
-pub overflow_add-k-else-is_sooner : goal.overflow_add-k-else-is_sooner
-overflow_add-k-else-is_sooner c = let few = (ripe-at (goal.at.overflow_add-k-else-is_sooner c).Then-ripe).few in omega (arith, few, c.loop-k-test.true)
-
-pub loop-k-smaller : goal.loop-k-smaller
-loop-k-smaller c = omega (arith, c.loop-k-test.true)
-
-pub loop-k-preserved : goal.loop-k-preserved
-loop-k-preserved c =
-    let m = c.loop-k in
-    let queue = c.loop-done.st.queue in
-    let more : m.k < c.part_count-parts.result = c.loop-k-test.true in
-    let few = (ripe-at (goal.at.loop-k-preserved c).Then-ripe).few in
-    let full : length queue ≡ queue_places = ripe_full _ _ _ _ _ _ _ _ (ripe-at (goal.at.loop-k-preserved c).Then-ripe) in
-    (omega (arith, more), keeps queue m.time m.part m.k (omega (arith, full, few, more)) (sym c.is_sooner.ensures ∙ c.if-is_sooner.false) ∙ m.invariant.1)
-
-pub offset_bounds-st-part : goal.offset_bounds-st-part
-offset_bounds-st-part c = let inside = best-inside (goal.at.offset_bounds-st-part c).After-loop-k in omega (arith, inside)
-
-pub bounds-st-part : goal.bounds-st-part
-bounds-st-part c = best-inside (goal.at.bounds-st-part c).After-loop-k
-
-pub bounds-st-0 : goal.bounds-st-0
-bounds-st-0 c = omega arith
-
-pub offset_bounds-records-record_at : goal.offset_bounds-records-record_at
-offset_bounds-records-record_at c = omega (arith, c.record_place-record_at.ensures)
-
-pub bounds-records-record_at : goal.bounds-records-record_at
-bounds-records-record_at c = omega (arith, c.record_place-record_at.ensures)
-
-pub overflow_add-done : goal.overflow_add-done
-overflow_add-done c = omega (arith, c.loop-done-test.true, c.ranges.n.fits)
-
-pub loop-done-smaller-then-ripe : goal.loop-done-smaller-then-ripe
-loop-done-smaller-then-ripe c = rw c.if-ripe.true (omega (arith, c.loop-done-test.true))
+pub bounds-st-best : goal.bounds-st-best
+bounds-st-best c = best-inside (goal.at.bounds-st-best c).After-loop-k
 
 pub loop-done-preserved-then-ripe : goal.loop-done-preserved-then-ripe
 loop-done-preserved-then-ripe c =
     let l = c.loop-done in (
       omega (arith, c.loop-done-test.true),
-      picked-due _ _ _ _ _ _ _ l.st (ripe-at (goal.at.loop-done-preserved-then-ripe c).Then-ripe) _ (picks_emptied l.st _ c.head_of-picked.result (best-known (goal.at.loop-done-preserved-then-ripe c).After-loop-k) c.head_of-picked.ensures) _ c.record_place-record_at.ensures _ c.noted-noted.ensures,
+      picked-due _ _ _ _ _ _ _ l.st (ripe-at (goal.at.loop-done-preserved-then-ripe c).Then-ripe) _ (picks_emptied l.st _ c.head_of-st.result (best-known (goal.at.loop-done-preserved-then-ripe c).After-loop-k) c.head_of-st.ensures) _ c.record_place-record_at.ensures _ c.noted.ensures,
       l.invariant.2,
       l.invariant.3,
     )
@@ -361,12 +356,9 @@ offset_bounds-sizes-receiver c = omega (arith, owner-known c)
 pub bounds-sizes-receiver : goal.bounds-sizes-receiver
 bounds-sizes-receiver c = owner-known c
 
-pub bounds-st-1 : goal.bounds-st-1
-bounds-st-1 c = omega arith
-
 pub arrive-arrival-requires : goal.arrive-arrival-requires
 arrive-arrival-requires c =
-    ((second-waits (goal.at.arrive-arrival-requires c).In-Packet).start, (second-waits (goal.at.arrive-arrival-requires c).In-Packet).count, subst (λ (b : ℕ). (line_at (now_at (goal.at.arrive-arrival-requires c).After-whose_turn-now) 1).buffer_contains.0 + b < 2 ^ 64) (sym (bits-known (goal.at.arrive-arrival-requires c).After-whose_turn-now _)) (second-room (goal.at.arrive-arrival-requires c).In-Packet))
+    ((second-waits (goal.at.arrive-arrival-requires c).In-Some).start, (second-waits (goal.at.arrive-arrival-requires c).In-Some).count, subst (λ (b : ℕ). (line_at (now_at (goal.at.arrive-arrival-requires c).After-whose_turn-now) 1).buffer_contains.0 + b < 2 ^ 64) (sym (bits-known (goal.at.arrive-arrival-requires c).After-whose_turn-now _)) (second-room (goal.at.arrive-arrival-requires c).In-Some))
 
 pub returns-then-arrival-ne0 : goal.returns-then-arrival-ne0
 returns-then-arrival-ne0 c =
@@ -375,7 +367,7 @@ returns-then-arrival-ne0 c =
     stopped (goal.at.returns-then-arrival-ne0 c).After-whose_turn-now _
     (t.tick
     ∙ ap (ticked s)
-    (pass_stopped s (full_at (goal.at.returns-then-arrival-ne0 c).After-whose_turn-now) (line-at (goal.at.returns-then-arrival-ne0 c).In-Link) t c.owner-receiver.result c.owner-receiver.ensures c.link_acts-acts.result (acts-known (goal.at.returns-then-arrival-ne0 c).After-link_acts-acts) c.pass_on-passing.result c.pass_on-passing.ensures _ c.in-Packet.is
+    (pass_stopped s (full_at (goal.at.returns-then-arrival-ne0 c).After-whose_turn-now) (line-at (goal.at.returns-then-arrival-ne0 c).In-Link) t c.owner-receiver.result c.owner-receiver.ensures c.link_acts-acts.result (acts-known (goal.at.returns-then-arrival-ne0 c).After-link_acts-acts) c.pass_on-passing.result c.pass_on-passing.ensures _ c.in-Some.is
     c.if-acts-ne0.false c.arrive-arrival.result (passed-known (goal.at.returns-then-arrival-ne0 c).After-arrive-arrival) (ne_eqb _ _ c.if-arrival-ne0.true)))
 
 pub overflow_add-waits_at : goal.overflow_add-waits_at
@@ -387,26 +379,23 @@ offset_bounds-st-waits_at c = omega (arith, pass-place (goal.at.offset_bounds-st
 pub bounds-st-waits_at : goal.bounds-st-waits_at
 bounds-st-waits_at c = omega (arith, pass-place (goal.at.bounds-st-waits_at c).After-arrive-arrival)
 
-pub offset_bounds-st-l-in-Packet : goal.offset_bounds-st-l-in-Packet
-offset_bounds-st-l-in-Packet c = omega (arith, (link-known (goal.at.offset_bounds-st-l-in-Packet c).In-Link).below)
+pub offset_bounds-st-l-in-Some : goal.offset_bounds-st-l-in-Some
+offset_bounds-st-l-in-Some c = omega (arith, (link-known (goal.at.offset_bounds-st-l-in-Some c).In-Link).below)
 
-pub bounds-st-l-in-Packet : goal.bounds-st-l-in-Packet
-bounds-st-l-in-Packet c = (link-known (goal.at.bounds-st-l-in-Packet c).In-Link).below
+pub bounds-st-l-in-Some : goal.bounds-st-l-in-Some
+bounds-st-l-in-Some c = (link-known (goal.at.bounds-st-l-in-Some c).In-Link).below
 
-pub offset_bounds-st-at-in-Packet : goal.offset_bounds-st-at-in-Packet
-offset_bounds-st-at-in-Packet c = omega (arith, (link-known (goal.at.offset_bounds-st-at-in-Packet c).In-Link).below, link-place (goal.at.offset_bounds-st-at-in-Packet c).After-link_acts-acts)
+pub offset_bounds-st-at-in-Some : goal.offset_bounds-st-at-in-Some
+offset_bounds-st-at-in-Some c = omega (arith, (link-known (goal.at.offset_bounds-st-at-in-Some c).In-Link).below, link-place (goal.at.offset_bounds-st-at-in-Some c).After-link_acts-acts)
 
-pub bounds-st-at-in-Packet : goal.bounds-st-at-in-Packet
-bounds-st-at-in-Packet c = omega (arith, (link-known (goal.at.bounds-st-at-in-Packet c).In-Link).below, link-place (goal.at.bounds-st-at-in-Packet c).After-link_acts-acts)
+pub bounds-st-at-in-Some : goal.bounds-st-at-in-Some
+bounds-st-at-in-Some c = omega (arith, (link-known (goal.at.bounds-st-at-in-Some c).In-Link).below, link-place (goal.at.bounds-st-at-in-Some c).After-link_acts-acts)
 
-pub bounds-st-1-in-Packet : goal.bounds-st-1-in-Packet
-bounds-st-1-in-Packet c = omega arith
+pub offset_bounds-st-waits_at-in-Some : goal.offset_bounds-st-waits_at-in-Some
+offset_bounds-st-waits_at-in-Some c = omega (arith, pass-place (goal.at.offset_bounds-st-waits_at-in-Some c).After-arrive-arrival)
 
-pub offset_bounds-st-waits_at-in-Packet : goal.offset_bounds-st-waits_at-in-Packet
-offset_bounds-st-waits_at-in-Packet c = omega (arith, pass-place (goal.at.offset_bounds-st-waits_at-in-Packet c).After-arrive-arrival)
-
-pub bounds-st-waits_at-in-Packet : goal.bounds-st-waits_at-in-Packet
-bounds-st-waits_at-in-Packet c = omega (arith, pass-place (goal.at.bounds-st-waits_at-in-Packet c).After-arrive-arrival)
+pub bounds-st-waits_at-in-Some : goal.bounds-st-waits_at-in-Some
+bounds-st-waits_at-in-Some c = omega (arith, pass-place (goal.at.bounds-st-waits_at-in-Some c).After-arrive-arrival)
 
 pub offset_bounds-st-front_after_at : goal.offset_bounds-st-front_after_at
 offset_bounds-st-front_after_at c = omega (arith, (link-known (goal.at.offset_bounds-st-front_after_at c).In-Link).below, link-front (goal.at.offset_bounds-st-front_after_at c).After-link_acts-acts)
@@ -420,11 +409,11 @@ offset_bounds-st-place c = omega (arith, part-known (goal.at.offset_bounds-st-pl
 pub bounds-st-place : goal.bounds-st-place
 bounds-st-place c = part-known (goal.at.bounds-st-place c).After-link_part-place
 
-pub offset_bounds-st-place-in-Packet : goal.offset_bounds-st-place-in-Packet
-offset_bounds-st-place-in-Packet c = omega (arith, part-known (goal.at.offset_bounds-st-place-in-Packet c).After-link_part-place)
+pub offset_bounds-st-place-in-Some : goal.offset_bounds-st-place-in-Some
+offset_bounds-st-place-in-Some c = omega (arith, part-known (goal.at.offset_bounds-st-place-in-Some c).After-link_part-place)
 
-pub bounds-st-place-in-Packet : goal.bounds-st-place-in-Packet
-bounds-st-place-in-Packet c = part-known (goal.at.bounds-st-place-in-Packet c).After-link_part-place
+pub bounds-st-place-in-Some : goal.bounds-st-place-in-Some
+bounds-st-place-in-Some c = part-known (goal.at.bounds-st-place-in-Some c).After-link_part-place
 
 pub overflow_cast-senders : goal.overflow_cast-senders
 overflow_cast-senders c = omega (arith, (link-known (goal.at.overflow_cast-senders c).In-Link).few)
@@ -462,24 +451,21 @@ offset_bounds-st-back_place c = omega (arith, (link-known (goal.at.offset_bounds
 pub bounds-st-back_place : goal.bounds-st-back_place
 bounds-st-back_place c = omega (arith, (link-known (goal.at.bounds-st-back_place c).In-Link).few)
 
-pub offset_bounds-st-back_place-in-Packet : goal.offset_bounds-st-back_place-in-Packet
-offset_bounds-st-back_place-in-Packet c = omega (arith, (link-known (goal.at.offset_bounds-st-back_place-in-Packet c).In-Link).few)
+pub offset_bounds-st-back_place-in-Some : goal.offset_bounds-st-back_place-in-Some
+offset_bounds-st-back_place-in-Some c = omega (arith, (link-known (goal.at.offset_bounds-st-back_place-in-Some c).In-Link).few)
 
-pub bounds-st-back_place-in-Packet : goal.bounds-st-back_place-in-Packet
-bounds-st-back_place-in-Packet c = omega (arith, (link-known (goal.at.bounds-st-back_place-in-Packet c).In-Link).few)
+pub bounds-st-back_place-in-Some : goal.bounds-st-back_place-in-Some
+bounds-st-back_place-in-Some c = omega (arith, (link-known (goal.at.bounds-st-back_place-in-Some c).In-Link).few)
 
-pub loop-done-smaller-in-Packet : goal.loop-done-smaller-in-Packet
-loop-done-smaller-in-Packet c = rw c.if-ripe.false (omega (arith, c.loop-done-test.true))
-
-pub loop-done-preserved-in-Packet : goal.loop-done-preserved-in-Packet
-loop-done-preserved-in-Packet c =
-    moved (goal.at.loop-done-preserved-in-Packet c).After-whose_turn-now _ _
-    (pass_stored (now_at (goal.at.loop-done-preserved-in-Packet c).After-whose_turn-now) (full_at (goal.at.loop-done-preserved-in-Packet c).After-whose_turn-now) (line-at (goal.at.loop-done-preserved-in-Packet c).In-Link) (link-known (goal.at.loop-done-preserved-in-Packet c).In-Link) c.owner-receiver.result c.owner-receiver.ensures c.link_acts-acts.result (acts-known (goal.at.loop-done-preserved-in-Packet c).After-link_acts-acts) c.pass_on-passing.result c.pass_on-passing.ensures _ c.in-Packet.is
-    c.if-acts-ne0.false c.arrive-arrival.result (passed-known (goal.at.loop-done-preserved-in-Packet c).After-arrive-arrival) c.if-arrival-ne0.false c.on_line_at-new.result c.on_line_at-new.ensures c.link_part-place.result c.link_part-place.ensures c.waiting_at-waits.result (pass-waits (goal.at.loop-done-preserved-in-Packet c).After-waiting_at-waits)
-    c.link_slot-link_slot.result c.link_slot-link_slot.ensures c.link_slot-back_slot.result c.link_slot-back_slot.ensures c.link_note-note.result c.link_note-note.ensures)
-    refl (link-known (goal.at.loop-done-preserved-in-Packet c).In-Link).few
-    (pass_none (now_at (goal.at.loop-done-preserved-in-Packet c).After-whose_turn-now) (full_at (goal.at.loop-done-preserved-in-Packet c).After-whose_turn-now) (line-at (goal.at.loop-done-preserved-in-Packet c).In-Link) (link-known (goal.at.loop-done-preserved-in-Packet c).In-Link) c.owner-receiver.result c.owner-receiver.ensures c.link_acts-acts.result (acts-known (goal.at.loop-done-preserved-in-Packet c).After-link_acts-acts) c.pass_on-passing.result c.pass_on-passing.ensures _ c.in-Packet.is
-    c.if-acts-ne0.false c.arrive-arrival.result (passed-known (goal.at.loop-done-preserved-in-Packet c).After-arrive-arrival) c.link_part-place.result c.link_part-place.ensures c.link_slot-link_slot.result c.link_slot-back_slot.result)
+pub loop-done-preserved-in-Some : goal.loop-done-preserved-in-Some
+loop-done-preserved-in-Some c =
+    moved (goal.at.loop-done-preserved-in-Some c).After-whose_turn-now _ _
+    (pass_stored (now_at (goal.at.loop-done-preserved-in-Some c).After-whose_turn-now) (full_at (goal.at.loop-done-preserved-in-Some c).After-whose_turn-now) (line-at (goal.at.loop-done-preserved-in-Some c).In-Link) (link-known (goal.at.loop-done-preserved-in-Some c).In-Link) c.owner-receiver.result c.owner-receiver.ensures c.link_acts-acts.result (acts-known (goal.at.loop-done-preserved-in-Some c).After-link_acts-acts) c.pass_on-passing.result c.pass_on-passing.ensures _ c.in-Some.is
+    c.if-acts-ne0.false c.arrive-arrival.result (passed-known (goal.at.loop-done-preserved-in-Some c).After-arrive-arrival) c.if-arrival-ne0.false c.on_line_at-new.result c.on_line_at-new.ensures c.link_part-place.result c.link_part-place.ensures c.waiting_at-waits.result (pass-waits (goal.at.loop-done-preserved-in-Some c).After-waiting_at-waits)
+    c.link_slot.result c.link_slot.ensures c.link_slot-in-Some.result c.link_slot-in-Some.ensures c.link_note-note.result c.link_note-note.ensures)
+    refl (link-known (goal.at.loop-done-preserved-in-Some c).In-Link).few
+    (pass_none (now_at (goal.at.loop-done-preserved-in-Some c).After-whose_turn-now) (full_at (goal.at.loop-done-preserved-in-Some c).After-whose_turn-now) (line-at (goal.at.loop-done-preserved-in-Some c).In-Link) (link-known (goal.at.loop-done-preserved-in-Some c).In-Link) c.owner-receiver.result c.owner-receiver.ensures c.link_acts-acts.result (acts-known (goal.at.loop-done-preserved-in-Some c).After-link_acts-acts) c.pass_on-passing.result c.pass_on-passing.ensures _ c.in-Some.is
+    c.if-acts-ne0.false c.arrive-arrival.result (passed-known (goal.at.loop-done-preserved-in-Some c).After-arrive-arrival) c.link_part-place.result c.link_part-place.ensures c.link_slot.result c.link_slot-in-Some.result)
 
 pub offset_bounds-st-receiver : goal.offset_bounds-st-receiver
 offset_bounds-st-receiver c = omega (arith, owner-known (goal.at.offset_bounds-st-receiver c).After-owner-receiver)
@@ -487,53 +473,53 @@ offset_bounds-st-receiver c = omega (arith, owner-known (goal.at.offset_bounds-s
 pub bounds-st-receiver : goal.bounds-st-receiver
 bounds-st-receiver c = owner-known (goal.at.bounds-st-receiver c).After-owner-receiver
 
-pub offset_bounds-st-receiver-in-Nothing : goal.offset_bounds-st-receiver-in-Nothing
-offset_bounds-st-receiver-in-Nothing c = omega (arith, owner-known (goal.at.offset_bounds-st-receiver-in-Nothing c).After-owner-receiver)
+pub offset_bounds-st-receiver-in-None : goal.offset_bounds-st-receiver-in-None
+offset_bounds-st-receiver-in-None c = omega (arith, owner-known (goal.at.offset_bounds-st-receiver-in-None c).After-owner-receiver)
 
-pub bounds-st-receiver-in-Nothing : goal.bounds-st-receiver-in-Nothing
-bounds-st-receiver-in-Nothing c = owner-known (goal.at.bounds-st-receiver-in-Nothing c).After-owner-receiver
+pub bounds-st-receiver-in-None : goal.bounds-st-receiver-in-None
+bounds-st-receiver-in-None c = owner-known (goal.at.bounds-st-receiver-in-None c).After-owner-receiver
 
-pub offset_bounds-st-l-in-Nothing : goal.offset_bounds-st-l-in-Nothing
-offset_bounds-st-l-in-Nothing c = omega (arith, (link-known (goal.at.offset_bounds-st-l-in-Nothing c).In-Link).below)
+pub offset_bounds-st-l-in-None : goal.offset_bounds-st-l-in-None
+offset_bounds-st-l-in-None c = omega (arith, (link-known (goal.at.offset_bounds-st-l-in-None c).In-Link).below)
 
-pub bounds-st-l-in-Nothing : goal.bounds-st-l-in-Nothing
-bounds-st-l-in-Nothing c = (link-known (goal.at.bounds-st-l-in-Nothing c).In-Link).below
+pub bounds-st-l-in-None : goal.bounds-st-l-in-None
+bounds-st-l-in-None c = (link-known (goal.at.bounds-st-l-in-None c).In-Link).below
 
-pub offset_bounds-st-at-in-Nothing : goal.offset_bounds-st-at-in-Nothing
-offset_bounds-st-at-in-Nothing c = omega (arith, (link-known (goal.at.offset_bounds-st-at-in-Nothing c).In-Link).below, link-place (goal.at.offset_bounds-st-at-in-Nothing c).After-link_acts-acts)
+pub offset_bounds-st-at-in-None : goal.offset_bounds-st-at-in-None
+offset_bounds-st-at-in-None c = omega (arith, (link-known (goal.at.offset_bounds-st-at-in-None c).In-Link).below, link-place (goal.at.offset_bounds-st-at-in-None c).After-link_acts-acts)
 
-pub bounds-st-at-in-Nothing : goal.bounds-st-at-in-Nothing
-bounds-st-at-in-Nothing c = omega (arith, (link-known (goal.at.bounds-st-at-in-Nothing c).In-Link).below, link-place (goal.at.bounds-st-at-in-Nothing c).After-link_acts-acts)
+pub bounds-st-at-in-None : goal.bounds-st-at-in-None
+bounds-st-at-in-None c = omega (arith, (link-known (goal.at.bounds-st-at-in-None c).In-Link).below, link-place (goal.at.bounds-st-at-in-None c).After-link_acts-acts)
 
-pub offset_bounds-st-receiver-in-Nothing-2 : goal.offset_bounds-st-receiver-in-Nothing-2
-offset_bounds-st-receiver-in-Nothing-2 c = omega (arith, owner-known (goal.at.offset_bounds-st-receiver-in-Nothing-2 c).After-owner-receiver)
+pub offset_bounds-st-receiver-in-None-2 : goal.offset_bounds-st-receiver-in-None-2
+offset_bounds-st-receiver-in-None-2 c = omega (arith, owner-known (goal.at.offset_bounds-st-receiver-in-None-2 c).After-owner-receiver)
 
-pub bounds-st-receiver-in-Nothing-2 : goal.bounds-st-receiver-in-Nothing-2
-bounds-st-receiver-in-Nothing-2 c = owner-known (goal.at.bounds-st-receiver-in-Nothing-2 c).After-owner-receiver
+pub bounds-st-receiver-in-None-2 : goal.bounds-st-receiver-in-None-2
+bounds-st-receiver-in-None-2 c = owner-known (goal.at.bounds-st-receiver-in-None-2 c).After-owner-receiver
 
-pub offset_bounds-st-receiver-in-Nothing-3 : goal.offset_bounds-st-receiver-in-Nothing-3
-offset_bounds-st-receiver-in-Nothing-3 c = omega (arith, owner-known (goal.at.offset_bounds-st-receiver-in-Nothing-3 c).After-owner-receiver)
+pub offset_bounds-st-receiver-in-None-3 : goal.offset_bounds-st-receiver-in-None-3
+offset_bounds-st-receiver-in-None-3 c = omega (arith, owner-known (goal.at.offset_bounds-st-receiver-in-None-3 c).After-owner-receiver)
 
-pub bounds-st-receiver-in-Nothing-3 : goal.bounds-st-receiver-in-Nothing-3
-bounds-st-receiver-in-Nothing-3 c = owner-known (goal.at.bounds-st-receiver-in-Nothing-3 c).After-owner-receiver
+pub bounds-st-receiver-in-None-3 : goal.bounds-st-receiver-in-None-3
+bounds-st-receiver-in-None-3 c = owner-known (goal.at.bounds-st-receiver-in-None-3 c).After-owner-receiver
 
-pub offset_bounds-st-front_after_at-in-Nothing : goal.offset_bounds-st-front_after_at-in-Nothing
-offset_bounds-st-front_after_at-in-Nothing c = omega (arith, (link-known (goal.at.offset_bounds-st-front_after_at-in-Nothing c).In-Link).below, link-front (goal.at.offset_bounds-st-front_after_at-in-Nothing c).After-link_acts-acts)
+pub offset_bounds-st-front_after_at-in-None : goal.offset_bounds-st-front_after_at-in-None
+offset_bounds-st-front_after_at-in-None c = omega (arith, (link-known (goal.at.offset_bounds-st-front_after_at-in-None c).In-Link).below, link-front (goal.at.offset_bounds-st-front_after_at-in-None c).After-link_acts-acts)
 
-pub bounds-st-front_after_at-in-Nothing : goal.bounds-st-front_after_at-in-Nothing
-bounds-st-front_after_at-in-Nothing c = omega (arith, (link-known (goal.at.bounds-st-front_after_at-in-Nothing c).In-Link).below, link-front (goal.at.bounds-st-front_after_at-in-Nothing c).After-link_acts-acts)
+pub bounds-st-front_after_at-in-None : goal.bounds-st-front_after_at-in-None
+bounds-st-front_after_at-in-None c = omega (arith, (link-known (goal.at.bounds-st-front_after_at-in-None c).In-Link).below, link-front (goal.at.bounds-st-front_after_at-in-None c).After-link_acts-acts)
 
-pub offset_bounds-st-place-in-Nothing : goal.offset_bounds-st-place-in-Nothing
-offset_bounds-st-place-in-Nothing c = omega (arith, part-known (goal.at.offset_bounds-st-place-in-Nothing c).After-link_part-place)
+pub offset_bounds-st-place-in-None : goal.offset_bounds-st-place-in-None
+offset_bounds-st-place-in-None c = omega (arith, part-known (goal.at.offset_bounds-st-place-in-None c).After-link_part-place)
 
-pub bounds-st-place-in-Nothing : goal.bounds-st-place-in-Nothing
-bounds-st-place-in-Nothing c = part-known (goal.at.bounds-st-place-in-Nothing c).After-link_part-place
+pub bounds-st-place-in-None : goal.bounds-st-place-in-None
+bounds-st-place-in-None c = part-known (goal.at.bounds-st-place-in-None c).After-link_part-place
 
-pub offset_bounds-st-place-in-Nothing-2 : goal.offset_bounds-st-place-in-Nothing-2
-offset_bounds-st-place-in-Nothing-2 c = omega (arith, part-known (goal.at.offset_bounds-st-place-in-Nothing-2 c).After-link_part-place)
+pub offset_bounds-st-place-in-None-2 : goal.offset_bounds-st-place-in-None-2
+offset_bounds-st-place-in-None-2 c = omega (arith, part-known (goal.at.offset_bounds-st-place-in-None-2 c).After-link_part-place)
 
-pub bounds-st-place-in-Nothing-2 : goal.bounds-st-place-in-Nothing-2
-bounds-st-place-in-Nothing-2 c = part-known (goal.at.bounds-st-place-in-Nothing-2 c).After-link_part-place
+pub bounds-st-place-in-None-2 : goal.bounds-st-place-in-None-2
+bounds-st-place-in-None-2 c = part-known (goal.at.bounds-st-place-in-None-2 c).After-link_part-place
 
 pub overflow_mul-sender_place : goal.overflow_mul-sender_place
 overflow_mul-sender_place c = omega (arith, owner-known (goal.at.overflow_mul-sender_place c).After-owner-receiver)
@@ -547,24 +533,21 @@ offset_bounds-st-sender_place c = omega (arith, owner-known (goal.at.offset_boun
 pub bounds-st-sender_place : goal.bounds-st-sender_place
 bounds-st-sender_place c = omega (arith, owner-known (goal.at.bounds-st-sender_place c).After-owner-receiver)
 
-pub offset_bounds-st-sender_place-in-Nothing : goal.offset_bounds-st-sender_place-in-Nothing
-offset_bounds-st-sender_place-in-Nothing c = omega (arith, owner-known (goal.at.offset_bounds-st-sender_place-in-Nothing c).After-owner-receiver)
+pub offset_bounds-st-sender_place-in-None : goal.offset_bounds-st-sender_place-in-None
+offset_bounds-st-sender_place-in-None c = omega (arith, owner-known (goal.at.offset_bounds-st-sender_place-in-None c).After-owner-receiver)
 
-pub bounds-st-sender_place-in-Nothing : goal.bounds-st-sender_place-in-Nothing
-bounds-st-sender_place-in-Nothing c = omega (arith, owner-known (goal.at.bounds-st-sender_place-in-Nothing c).After-owner-receiver)
+pub bounds-st-sender_place-in-None : goal.bounds-st-sender_place-in-None
+bounds-st-sender_place-in-None c = omega (arith, owner-known (goal.at.bounds-st-sender_place-in-None c).After-owner-receiver)
 
-pub loop-done-smaller-in-Nothing : goal.loop-done-smaller-in-Nothing
-loop-done-smaller-in-Nothing c = rw c.if-ripe.false (omega (arith, c.loop-done-test.true))
-
-pub loop-done-preserved-in-Nothing : goal.loop-done-preserved-in-Nothing
-loop-done-preserved-in-Nothing c =
-    moved (goal.at.loop-done-preserved-in-Nothing c).After-whose_turn-now _ _
-    (home_stored (now_at (goal.at.loop-done-preserved-in-Nothing c).After-whose_turn-now) (full_at (goal.at.loop-done-preserved-in-Nothing c).After-whose_turn-now) (line-at (goal.at.loop-done-preserved-in-Nothing c).In-Link) (link-known (goal.at.loop-done-preserved-in-Nothing c).In-Link) c.owner-receiver.result c.owner-receiver.ensures c.link_acts-acts.result (acts-known (goal.at.loop-done-preserved-in-Nothing c).After-link_acts-acts) c.if-acts-ne0.false c.pass_on-passing.result c.pass_on-passing.ensures c.in-Nothing.is
-    c.hear-hearing.result (heard-known (goal.at.loop-done-preserved-in-Nothing c).After-hear-hearing) c.on_line_at-new.result c.on_line_at-new.ensures c.link_part-place.result c.link_part-place.ensures c.link_slot-link_slot-in-Nothing.result c.link_slot-link_slot-in-Nothing.ensures c.sender_slot-sender_slot.result c.sender_slot-sender_slot.ensures
-    c.link_note-note-in-Nothing.result c.link_note-note-in-Nothing.ensures)
-    refl (link-known (goal.at.loop-done-preserved-in-Nothing c).In-Link).few
-    (home_none (now_at (goal.at.loop-done-preserved-in-Nothing c).After-whose_turn-now) (full_at (goal.at.loop-done-preserved-in-Nothing c).After-whose_turn-now) (line-at (goal.at.loop-done-preserved-in-Nothing c).In-Link) (link-known (goal.at.loop-done-preserved-in-Nothing c).In-Link) c.owner-receiver.result c.owner-receiver.ensures c.link_acts-acts.result (acts-known (goal.at.loop-done-preserved-in-Nothing c).After-link_acts-acts) c.if-acts-ne0.false c.pass_on-passing.result c.pass_on-passing.ensures c.in-Nothing.is
-    c.hear-hearing.result (heard-known (goal.at.loop-done-preserved-in-Nothing c).After-hear-hearing) c.link_part-place.result c.link_part-place.ensures c.link_slot-link_slot-in-Nothing.result c.sender_slot-sender_slot.result c.sender_slot-sender_slot.ensures)
+pub loop-done-preserved-in-None : goal.loop-done-preserved-in-None
+loop-done-preserved-in-None c =
+    moved (goal.at.loop-done-preserved-in-None c).After-whose_turn-now _ _
+    (home_stored (now_at (goal.at.loop-done-preserved-in-None c).After-whose_turn-now) (full_at (goal.at.loop-done-preserved-in-None c).After-whose_turn-now) (line-at (goal.at.loop-done-preserved-in-None c).In-Link) (link-known (goal.at.loop-done-preserved-in-None c).In-Link) c.owner-receiver.result c.owner-receiver.ensures c.link_acts-acts.result (acts-known (goal.at.loop-done-preserved-in-None c).After-link_acts-acts) c.if-acts-ne0.false c.pass_on-passing.result c.pass_on-passing.ensures c.in-None.is
+    c.hear-hearing.result (heard-known (goal.at.loop-done-preserved-in-None c).After-hear-hearing) c.on_line_at-new.result c.on_line_at-new.ensures c.link_part-place.result c.link_part-place.ensures c.link_slot-in-None.result c.link_slot-in-None.ensures c.sender_slot.result c.sender_slot.ensures
+    c.link_note-note-in-None.result c.link_note-note-in-None.ensures)
+    refl (link-known (goal.at.loop-done-preserved-in-None c).In-Link).few
+    (home_none (now_at (goal.at.loop-done-preserved-in-None c).After-whose_turn-now) (full_at (goal.at.loop-done-preserved-in-None c).After-whose_turn-now) (line-at (goal.at.loop-done-preserved-in-None c).In-Link) (link-known (goal.at.loop-done-preserved-in-None c).In-Link) c.owner-receiver.result c.owner-receiver.ensures c.link_acts-acts.result (acts-known (goal.at.loop-done-preserved-in-None c).After-link_acts-acts) c.if-acts-ne0.false c.pass_on-passing.result c.pass_on-passing.ensures c.in-None.is
+    c.hear-hearing.result (heard-known (goal.at.loop-done-preserved-in-None c).After-hear-hearing) c.link_part-place.result c.link_part-place.ensures c.link_slot-in-None.result c.sender_slot.result c.sender_slot.ensures)
 
 pub offset_bounds-st-i : goal.offset_bounds-st-i
 offset_bounds-st-i c = omega (arith, (sender-known c).below)
@@ -579,9 +562,6 @@ pub returns-then-acts-ne0-2 : goal.returns-then-acts-ne0-2
 returns-then-acts-ne0-2 c =
     let s = now_at (goal.at.returns-then-acts-ne0-2 c).After-whose_turn-now in
     stopped (goal.at.returns-then-acts-ne0-2 c).After-whose_turn-now _ ((sender-known (goal.at.returns-then-acts-ne0-2 c).In-Sender).tick ∙ ap (ticked s) (sender-stops s (full_at (goal.at.returns-then-acts-ne0-2 c).After-whose_turn-now).lines _ c.sender_acts-acts.result c.sender_acts-acts.ensures (ne_eqb _ _ c.if-acts-ne0-2.true)))
-
-pub bounds-st-0-in-Sender : goal.bounds-st-0-in-Sender
-bounds-st-0-in-Sender c = omega arith
 
 pub offset_bounds-sizes-i : goal.offset_bounds-sizes-i
 offset_bounds-sizes-i c = omega (arith, (sender-known (goal.at.offset_bounds-sizes-i c).In-Sender).below)
@@ -604,9 +584,6 @@ offset_bounds-st-at-in-Sender c = omega (arith, arrive-place (goal.at.offset_bou
 
 pub bounds-st-at-in-Sender : goal.bounds-st-at-in-Sender
 bounds-st-at-in-Sender c = omega (arith, arrive-place (goal.at.bounds-st-at-in-Sender c).After-arrive-arrival-in-Sender)
-
-pub bounds-st-0-in-Sender-2 : goal.bounds-st-0-in-Sender-2
-bounds-st-0-in-Sender-2 c = omega arith
 
 pub offset_bounds-st-at-in-Sender-2 : goal.offset_bounds-st-at-in-Sender-2
 offset_bounds-st-at-in-Sender-2 c = omega (arith, arrive-place (goal.at.offset_bounds-st-at-in-Sender-2 c).After-arrive-arrival-in-Sender)
@@ -644,26 +621,17 @@ offset_bounds-st-front_after_at-in-Sender c = omega (arith, arrive-front (goal.a
 pub bounds-st-front_after_at-in-Sender : goal.bounds-st-front_after_at-in-Sender
 bounds-st-front_after_at-in-Sender c = omega (arith, arrive-front (goal.at.bounds-st-front_after_at-in-Sender c).After-arrive-arrival-in-Sender)
 
-pub bounds-st-0-in-Sender-3 : goal.bounds-st-0-in-Sender-3
-bounds-st-0-in-Sender-3 c = omega arith
-
-pub bounds-st-0-in-Sender-4 : goal.bounds-st-0-in-Sender-4
-bounds-st-0-in-Sender-4 c = omega arith
-
 pub sender_note-note-requires : goal.sender_note-note-requires
 sender_note-note-requires c = (sender-known (goal.at.sender_note-note-requires c).In-Sender).below
-
-pub loop-done-smaller-in-Sender : goal.loop-done-smaller-in-Sender
-loop-done-smaller-in-Sender c = rw c.if-ripe.false (omega (arith, c.loop-done-test.true))
 
 pub loop-done-preserved-in-Sender : goal.loop-done-preserved-in-Sender
 loop-done-preserved-in-Sender c =
     moved (goal.at.loop-done-preserved-in-Sender c).After-whose_turn-now _ _
     (sender-stored (now_at (goal.at.loop-done-preserved-in-Sender c).After-whose_turn-now) (full_at (goal.at.loop-done-preserved-in-Sender c).After-whose_turn-now) _ (sender-known (goal.at.loop-done-preserved-in-Sender c).In-Sender) c.sender_acts-acts.result c.sender_acts-acts.ensures c.if-acts-ne0-2.false c.arrive-arrival-in-Sender.result (arrived-known (goal.at.loop-done-preserved-in-Sender c).After-arrive-arrival-in-Sender) c.if-arrival-ne0-2.false
-    c.waiting_at-new.result (waits-known (goal.at.loop-done-preserved-in-Sender c).After-waiting_at-new) c.sender_slot-sender_slot-in-Sender.result c.sender_slot-sender_slot-in-Sender.ensures c.link_slot-link_slot-in-Sender.result c.link_slot-link_slot-in-Sender.ensures
+    c.waiting_at-new.result (waits-known (goal.at.loop-done-preserved-in-Sender c).After-waiting_at-new) c.sender_slot-in-Sender.result c.sender_slot-in-Sender.ensures c.link_slot-in-Sender.result c.link_slot-in-Sender.ensures
     c.sender_note-note.result c.sender_note-note.ensures)
     refl (senders_few (now_at (goal.at.loop-done-preserved-in-Sender c).After-whose_turn-now) (sender-known (goal.at.loop-done-preserved-in-Sender c).In-Sender).fits)
-    (sender-none (now_at (goal.at.loop-done-preserved-in-Sender c).After-whose_turn-now) (full_at (goal.at.loop-done-preserved-in-Sender c).After-whose_turn-now) _ (sender-known (goal.at.loop-done-preserved-in-Sender c).In-Sender) c.sender_acts-acts.result c.sender_acts-acts.ensures c.if-acts-ne0-2.false c.arrive-arrival-in-Sender.result (arrived-known (goal.at.loop-done-preserved-in-Sender c).After-arrive-arrival-in-Sender) c.if-arrival-ne0-2.false c.sender_slot-sender_slot-in-Sender.result c.link_slot-link_slot-in-Sender.result)
+    (sender-none (now_at (goal.at.loop-done-preserved-in-Sender c).After-whose_turn-now) (full_at (goal.at.loop-done-preserved-in-Sender c).After-whose_turn-now) _ (sender-known (goal.at.loop-done-preserved-in-Sender c).In-Sender) c.sender_acts-acts.result c.sender_acts-acts.ensures c.if-acts-ne0-2.false c.arrive-arrival-in-Sender.result (arrived-known (goal.at.loop-done-preserved-in-Sender c).After-arrive-arrival-in-Sender) c.if-arrival-ne0-2.false c.sender_slot-in-Sender.result c.link_slot-in-Sender.result)
 
 pub offset_bounds-st-i-in-Toggler : goal.offset_bounds-st-i-in-Toggler
 offset_bounds-st-i-in-Toggler c = omega (arith, (toggler-known c).below)
@@ -739,16 +707,13 @@ bounds-st-place-in-Toggler-2 c = omega (arith, (toggler-known (goal.at.bounds-st
 pub toggler_note-note-requires : goal.toggler_note-note-requires
 toggler_note-note-requires c = (toggler-known (goal.at.toggler_note-note-requires c).In-Toggler).below
 
-pub loop-done-smaller : goal.loop-done-smaller
-loop-done-smaller c = rw c.if-ripe.false (omega (arith, c.loop-done-test.true))
-
 pub loop-done-preserved : goal.loop-done-preserved
 loop-done-preserved c =
     moved (goal.at.loop-done-preserved c).After-whose_turn-now _ _
     (toggler_stored (now_at (goal.at.loop-done-preserved c).After-whose_turn-now) (full_at (goal.at.loop-done-preserved c).After-whose_turn-now) _ (toggler-known (goal.at.loop-done-preserved c).In-Toggler) c.toggle-toggle.result c.toggle-toggle.ensures c.if-toggle-ne0.false c.switched-switched.result c.switched-switched.ensures c.switch_lending-switching.result c.switch_lending-switching.ensures
-    c.toggler_slot-toggler_slot.result c.toggler_slot-toggler_slot.ensures c.sender_slot-sender_slot-in-Toggler.result c.sender_slot-sender_slot-in-Toggler.ensures c.toggler_note-note.result c.toggler_note-note.ensures)
+    c.toggler_slot.result c.toggler_slot.ensures c.sender_slot-in-Toggler.result c.sender_slot-in-Toggler.ensures c.toggler_note-note.result c.toggler_note-note.ensures)
     refl (senders_few (now_at (goal.at.loop-done-preserved c).After-whose_turn-now) (toggler-known (goal.at.loop-done-preserved c).In-Toggler).fits)
-    (toggler_none (now_at (goal.at.loop-done-preserved c).After-whose_turn-now) (full_at (goal.at.loop-done-preserved c).After-whose_turn-now) _ (toggler-known (goal.at.loop-done-preserved c).In-Toggler) c.toggle-toggle.result c.toggle-toggle.ensures c.if-toggle-ne0.false c.switched-switched.result c.switched-switched.ensures c.switch_lending-switching.result c.switch_lending-switching.ensures c.toggler_slot-toggler_slot.result c.sender_slot-sender_slot-in-Toggler.result)
+    (toggler_none (now_at (goal.at.loop-done-preserved c).After-whose_turn-now) (full_at (goal.at.loop-done-preserved c).After-whose_turn-now) _ (toggler-known (goal.at.loop-done-preserved c).In-Toggler) c.toggle-toggle.result c.toggle-toggle.ensures c.if-toggle-ne0.false c.switched-switched.result c.switched-switched.ensures c.switch_lending-switching.result c.switch_lending-switching.ensures c.toggler_slot.result c.sender_slot-in-Toggler.result)
 
-pub returns : goal.returns
-returns c = let l = c.loop-done in ends_kept _ _ _ _ _ _ _ l.st l.ripe l.invariant.1 c.loop-done-test.false
+pub returns-after-loop-done : goal.returns-after-loop-done
+returns-after-loop-done c = let l = c.loop-done in ends_kept _ _ _ _ _ _ _ l.st l.ripe l.invariant.1 c.loop-done-test.false

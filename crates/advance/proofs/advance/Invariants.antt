@@ -2,8 +2,8 @@
 use mathlib.Core.Path.{◌≡◌}
 use mathlib.Core.Bool.{cond}
 use Prim.Native.Nat.{◌*◌, ◌-◌, ◌≤◌}
-use lib.ListN.{drop, replicate}
-use Rattle.toggler.specs.Queue.{pick_from, pick_of}
+use lib.ListN.{length, drop, replicate}
+use Rattle.toggler.specs.Queue.{queue_places, pick_from, pick_of}
 use Rattle.remy.specs.Run.{batch, no_noted}
 use Rattle.advance.specs.Advance.{advance_of}
 use Rattle.advance.proofs.Ticks.{parts_of, Kept}
@@ -11,10 +11,7 @@ use Rattle.advance.proofs.advance.Given as goal
 
 abbrev pub invariant-loop-k : goal.invariant-loop-k
 invariant-loop-k l =
-    (l.k ≤ l.parts) × (pick_from (drop l.k l.st.queue) l.k (record { time = l.time; part = l.part }) ≡ pick_of l.st.queue)
-
-abbrev pub decreases-loop-k : goal.decreases-loop-k
-decreases-loop-k l = l.parts - l.k
+    (l.parts ≤ queue_places) × (length l.st.queue ≡ queue_places) × (pick_from (drop l.k l.st.queue) l.k l.best ≡ pick_of l.st.queue)
 
 abbrev pub invariant-loop-done : goal.invariant-loop-done
 invariant-loop-done l =

@@ -1,6 +1,8 @@
 -- The loop is the run with its records where no place is used over again, and demand 3 is given on; which numbers it gives, that the clock can't go back, and that it joins and is so many ticks,
 -- is said of the run. Assumes nothing.
-use mathlib.Core.Path.{sym, ap, subst, ◌∙◌}
+use mathlib.Core.Path.{◌≡◌, sym, ap, subst, ◌∙◌}
+use Prim.Native.Nat.{ℕ, min}
+use native.Mathlib.Omega.{arith}
 use Rattle.remy.specs.declared.simulation.Ran.{Ran}
 use Rattle.remy.specs.Run.{TickNumber, batch_of, ran_of}
 use Rattle.remy.specs.Joins.{JoinsOn, TickByTick}
@@ -13,14 +15,17 @@ use Rattle.simulation.proofs.Cases.{records_is}
 use Rattle.simulation.proofs.Reach.{records_account}
 use Rattle.simulation.proofs.records.Goals as goal
 
+least : (n : ℕ) → min n 256 ≡ batch_of n
+least n = grind arith
+
 pub returns : goal.returns
 returns c =
-    let a = c.advance-a in
-    let most = c.batch_of-most in
+    let a = c.advance in
+    let most = c.min-most in
     let s = c.args.simulation in
     let n = c.args.n in
     let b = batch_of n in
-    let is = records_is n most.result s a.result most.ensures a.ensures in
+    let is = records_is n most.result s a.result (most.ensures ∙ least n) a.ensures in
     let ran = ap ran_of is ∙ records_ran n s in
     let steps = subst (TickByTick b s) (sym ran) (tick_by_tick b s) in (
       is,

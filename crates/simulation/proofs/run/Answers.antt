@@ -14,7 +14,7 @@ use Rattle.simulation.proofs.run.Goals as goal
 
 pub returns : goal.returns
 returns c =
-    let a = c.advance-a in
+    let a = c.advance-ran in
     let s = c.args.simulation in
     let n = c.args.n in
     let is = run_is n s a.result a.ensures in

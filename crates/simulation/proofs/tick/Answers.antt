@@ -14,7 +14,7 @@ use Rattle.simulation.proofs.tick.Goals as goal
 
 pub returns : goal.returns
 returns c =
-    let a = c.advance-a in
+    let a = c.advance-one in
     let s = c.args.simulation in
     let is = one-tick _ s a.result a.ensures in
     let ran = one-run s ∙ ap as_run (sym is) in (
