@@ -18,7 +18,6 @@ use Rattle.link.specs.declared.packet.Packet.{Packet}
 use Rattle.link.specs.declared.link.Line.{Line}
 use Rattle.link.specs.declared.link.Arrival.{Arrival}
 use Rattle.link.specs.declared.link.Left.{Left}
-use Rattle.link.specs.declared.link.Left.TheVariants as Left
 use Rattle.link.specs.declared.link.Delivered.{Delivered}
 use Rattle.link.specs.declared.link.Transmitted.{Transmitted}
 use Rattle.toggler.specs.declared.toggler.Toggler.{Toggler}
@@ -31,7 +30,6 @@ use Rattle.sender.specs.declared.lossy.SenderState.TheVariants as State
 use Rattle.sender.specs.declared.lossy.Enabled.{Enabled}
 use Rattle.sender.specs.declared.lossy.Sent.{Sent}
 use Rattle.sender.specs.declared.lossy.Heard.{Heard}
-use Rattle.sender.specs.declared.lossy.Heard.TheVariants as Heard
 use Rattle.sender.specs.declared.lossy.Returned.{Returned}
 use Rattle.link.specs.Link.{admits, admitted, receive_of, try_deliver, try_transmit}
 use Rattle.sender.specs.Sender.{returned_of, timer_due, tick_timer, tick_send}

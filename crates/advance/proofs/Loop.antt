@@ -21,7 +21,6 @@ use Rattle.link.specs.declared.packet.Waiting.{Waiting}
 use Rattle.link.specs.declared.packet.Transit.{Transit}
 use Rattle.link.specs.declared.link.Line.{Line}
 use Rattle.link.specs.declared.link.Left.{Left}
-use Rattle.link.specs.declared.link.Left.TheVariants as Left
 use Rattle.link.specs.declared.link.Arrival.{Arrival}
 use Rattle.link.specs.declared.link.Transmitted.{Transmitted}
 use Rattle.sender.specs.declared.lossy.LossySender.{LossySender}
@@ -44,7 +43,6 @@ use Rattle.remy.proofs.Facts.{first-there, second_there, lines_few}
 use Rattle.remy.proofs.Roles.{Real, part_below}
 use Rattle.remy.proofs.Steps.{cond_elim}
 use Rattle.queueing.specs.declared.Now.{Now}
-use Rattle.queueing.specs.declared.Now.TheVariants as Now
 use Rattle.turns.specs.declared.LinkValues.{LinkValues}
 use Rattle.turns.specs.declared.LinkActed.{LinkActed}
 use Rattle.turns.specs.declared.Hearing.{Hearing}

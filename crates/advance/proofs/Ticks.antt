@@ -15,7 +15,6 @@ use Rattle.draws.specs.Draws.{unit_of}
 use Rattle.link.specs.declared.packet.Packet.{Packet}
 use Rattle.link.specs.declared.packet.Waiting.{Waiting}
 use Rattle.link.specs.declared.link.Left.{Left}
-use Rattle.link.specs.declared.link.Left.TheVariants as Left
 use Rattle.link.specs.declared.link.Delivered.{Delivered}
 use Rattle.link.specs.Link.{is_due, departed, try_deliver}
 use Rattle.toggler.specs.declared.tick_queue.Picked.{Picked}
@@ -41,7 +40,6 @@ use Rattle.steady.specs.Clock.{Typed}
 use Rattle.steady.proofs.Clock.{tick_typed}
 use Rattle.steady.proofs.Steady.{Steady, tick_steady}
 use Rattle.queueing.specs.declared.Now.{Now}
-use Rattle.queueing.specs.declared.Now.TheVariants as Now
 use Rattle.turns.specs.declared.LinkActed.{LinkActed}
 use Rattle.toggler.proofs.Pick.{NoneFrom}
 use Rattle.queueing.specs.Queueing.{now_role, now_next, now_of}

@@ -17,7 +17,6 @@ use Rattle.quantities.specs.declared.time.Time.{Time}
 use Rattle.quantities.specs.NewTime.{Double}
 use Rattle.quantities.specs.contracts.time.Time as T
 use Rattle.std.specs.contracts.option.Option as O
-use Rattle.link.specs.declared.packet.Transit.{Transit}
 use Rattle.link.specs.contracts.link.Line as Line
 use Rattle.link.specs.contracts.packet.Waiting as Waiting
 use Rattle.link.specs.contracts.packet.Transit as Transit
@@ -26,9 +25,7 @@ use Rattle.sender.specs.declared.lossy.SenderState.{SenderState}
 use Rattle.sender.specs.declared.lossy.SenderState.TheVariants as State
 use Rattle.sender.specs.contracts.lossy.SenderState as S
 use Rattle.sender.specs.contracts.lossy.LossySender as Sender
-use Rattle.toggler.specs.declared.toggler.Toggler.{Toggler}
 use Rattle.toggler.specs.contracts.toggler.Toggler as Toggler
-use Rattle.toggler.specs.declared.tick_queue.Queued.{Queued}
 use Rattle.toggler.specs.contracts.tick_queue.Queued as Queued
 use Rattle.toggler.specs.Queue.{no_queued}
 use Rattle.remy.specs.declared.simulation.Simulation.{Simulation}

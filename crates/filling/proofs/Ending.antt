@@ -18,7 +18,6 @@ use Rattle.remy.proofs.Steps.{cond_elim}
 use Rattle.printer.specs.Printing.{PutIs, refused_text}
 use Rattle.lines.specs.Lines.{record_lines, stop_line, flow_at, flow_line, flow_lines, flow_count, flows_from, end_lines, run_lines}
 use Rattle.report.specs.declared.run.Stage.{Stage}
-use Rattle.report.specs.declared.run.Stage.TheVariants as Stage
 use Rattle.report.specs.declared.run.Report.{Report}
 use Rattle.report.specs.Report.{left_at, left_of}
 use Rattle.filling.specs.declared.Filled.{Filled}

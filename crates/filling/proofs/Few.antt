@@ -16,7 +16,6 @@ use Rattle.remy.proofs.Steps.{cond_elim}
 use Rattle.description.specs.Text.{Written, text_of, InWidth, given, malformed, description_of, answer_of}
 use Rattle.printer.specs.Printing.{written}
 use Rattle.report.specs.declared.run.Stage.{Stage}
-use Rattle.report.specs.declared.run.Stage.TheVariants as Stage
 use Rattle.report.specs.declared.run.Report.{Report}
 use Rattle.filling.specs.declared.Filled.{Filled}
 use Rattle.report.specs.Network.{network_of}

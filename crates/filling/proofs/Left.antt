@@ -19,7 +19,6 @@ use Rattle.printer.specs.Printing.{refused_text}
 use Rattle.lines.specs.Lines.{record_lines, flow_lines, flow_count, flows_from, end_lines, run_lines}
 use Rattle.lines.proofs.Joins.{record_lines_join}
 use Rattle.report.specs.declared.run.Stage.{Stage}
-use Rattle.report.specs.declared.run.Stage.TheVariants as Stage
 use Rattle.report.specs.declared.run.Report.{Report}
 use Rattle.report.specs.Report.{left_at, left_of}
 use Rattle.filling.specs.declared.Filled.{Filled}

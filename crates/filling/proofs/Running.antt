@@ -26,7 +26,6 @@ use Rattle.printer.specs.Printing.{PutIs}
 use Rattle.lines.specs.Lines.{record_line, record_lines}
 use Rattle.lines.proofs.Joins.{record_lines_join}
 use Rattle.report.specs.declared.run.Stage.{Stage}
-use Rattle.report.specs.declared.run.Stage.TheVariants as Stage
 use Rattle.filling.specs.declared.Filled.{Filled}
 use Rattle.filling.specs.declared.Batch.{Batch}
 use Rattle.filling.specs.Filling.{Puts, puts, none_left, PutBy, report_at, end_after, run_after, rest_at, filled_by, batch_by, noted_line}

@@ -5,7 +5,6 @@ use Rattle.remy.specs.declared.simulation.Noted.{Noted}
 use Rattle.remy.specs.Run.{run_of}
 use Rattle.printer.specs.Printing.{written}
 use Rattle.report.specs.declared.run.Stage.{Stage}
-use Rattle.report.specs.declared.run.Stage.TheVariants as Stage
 use Rattle.report.specs.declared.run.Report.{Report}
 use Rattle.lines.specs.Lines.{record_line, flow_count}
 use Rattle.report.specs.Report.{left_of}

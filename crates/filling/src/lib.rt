@@ -78,7 +78,12 @@ fn put_records(out: &mut [u8], at: usize, simulation: Simulation, n: u32) -> Fil
         let put = put_batch(out, next, b.records, b.done);
         if put.count < b.done {
             let again = simulation::run(st, put.count);
-            return answer(put.at, false, Stage::Ticks(left - put.count), again.simulation);
+            return answer(
+                put.at,
+                false,
+                Stage::Ticks(left - put.count),
+                again.simulation,
+            );
         }
         if ended(b.done, left) {
             return answer(put.at, true, Stage::Stop(b.number), b.simulation);
@@ -91,6 +96,7 @@ fn put_records(out: &mut [u8], at: usize, simulation: Simulation, n: u32) -> Fil
 }
 
 // How many flows are printed.
+#[tactic(auto, unfolding(lines::specs::Lines::flow_count))]
 fn flow_count(simulation: Simulation) -> u32
     ensures { result ≡ flow_count simulation }
 {
@@ -106,7 +112,14 @@ fn put_flows(out: &mut [u8], at: usize, first: u32, simulation: Simulation) -> F
     let mut next = at;
     for i in first..n {
         let k = i as usize;
-        match flow_bytes(out, next, i, simulation.senders[k], simulation.meters[k], clock) {
+        match flow_bytes(
+            out,
+            next,
+            i,
+            simulation.senders[k],
+            simulation.meters[k],
+            clock,
+        ) {
             Some(after) => next = after,
             None => return answer(next, false, Stage::Flows(i), simulation),
         }

@@ -4,14 +4,14 @@ use mathlib.Core.Bool.{Bool}
 use mathlib.Core.List.{List}
 use Prim.Native.Nat.{ℕ, ◌+◌, ◌≤◌, ◌<◌, ◌^◌}
 use native.Mathlib.Omega.{arith}
-use lib.ListN.{length, get_or, replicate}
+use lib.ListN.{get_or, replicate}
 use borrow.Author.Tests.{ne_eqb}
 use Rattle.quantities.specs.Units.{amount_of}
 use Rattle.link.specs.declared.link.LineValues.{LineValues}
 use Rattle.link.specs.Ring.{places}
 use Rattle.link.proofs.Items.{Sound}
 use Rattle.toggler.specs.Queue.{queue_places, pick_of}
-use Rattle.toggler.proofs.Pick.{NoneFrom, takes, keeps, finished}
+use Rattle.toggler.proofs.Pick.{NoneFrom, finished}
 use Rattle.remy.specs.declared.network.RemyNetwork.{RemyNetwork}
 use Rattle.remy.specs.declared.simulation.Simulation.{Simulation}
 use Rattle.remy.specs.declared.simulation.TickRecord.{TickRecord}

@@ -10,8 +10,8 @@ use Rattle.filling.proofs.print_flows.Goals as goal
 
 pub returns : goal.returns
 returns c =
-    for_each _ _ _ (λ d e. all_as (c.without_records-last.ensures ∙ ap end_of e) c.put_all.ensures)
-    c.report_of-report.ensures
+    for_each _ _ _ (λ d e. all_as (c.without_records.ensures ∙ ap end_of e) c.put_all.ensures)
+    c.report_of.ensures
 
 in_place : NoBytes code.function
 in_place = refl

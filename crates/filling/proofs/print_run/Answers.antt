@@ -8,7 +8,7 @@ use Rattle.filling.proofs.print_run.Code as code
 use Rattle.filling.proofs.print_run.Goals as goal
 
 pub returns : goal.returns
-returns c = for_each _ _ _ (λ d e. all_as e c.put_all.ensures) c.report_of-report.ensures
+returns c = for_each _ _ _ (λ d e. all_as e c.put_all.ensures) c.report_of.ensures
 
 in_place : NoBytes code.function
 in_place = refl

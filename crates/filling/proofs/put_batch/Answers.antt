@@ -1,8 +1,10 @@
--- The invariant: what is so from here is so from the start. The measure is how many records are left. Assumes nothing.
-use Prim.Native.Nat.{◌≤◌}
-use mathlib.Core.Path.{refl, ◌∙◌}
+-- The invariant: what is so from here is so from the start. Assumes nothing.
+use Prim.Native.Nat.{ℕ, ◌≤◌}
+use mathlib.Core.List.{map}
+use mathlib.Core.Path.{◌≡◌, refl, subst, ◌∙◌}
 use native.Mathlib.Omega.{arith}
-use lib.ListN.{length}
+use lib.ListN.{length, take}
+use Rattle.filling.specs.Filling.{PutBy, batch_by, noted_line}
 use Rattle.filling.proofs.Running.{note_goes, note_full, notes_end, notes_all}
 use Rattle.filling.proofs.put_batch.Goals as goal
 use Rattle.filling.proofs.put_batch.Goals.{Start}
@@ -14,14 +16,11 @@ few a = omega (arith, a.well_formed.1.1.0.1.0.1, a.requires)
 pub loop-i-init : goal.loop-i-init
 loop-i-init c = (notes_all c.args.done c.args.records _ _, omega arith, refl)
 
-pub offset_bounds-records-k : goal.offset_bounds-records-k
-offset_bounds-records-k c = omega (arith, c.requires)
+pub offset_bounds-records-i : goal.offset_bounds-records-i
+offset_bounds-records-i c = omega (arith, c.requires)
 
-pub bounds-records-k : goal.bounds-records-k
-bounds-records-k c = omega (arith, c.requires)
-
-pub loop-i-smaller : goal.loop-i-smaller
-loop-i-smaller c = omega arith
+pub bounds-records-i : goal.bounds-records-i
+bounds-records-i c = omega (arith, c.requires)
 
 pub loop-i-preserved : goal.loop-i-preserved
 loop-i-preserved c =
@@ -44,4 +43,6 @@ shape_of-out c = c.loop-i.invariant.2
 pub returns : goal.returns
 returns c =
     let l = c.loop-i in
-    l.invariant.0 _ _ (notes_end c.args.done c.args.records l.i (few (goal.at.returns c).Start) (omega (arith, c.loop-i-test.false)) _ _)
+    let all : l.i ≡ c.args.done = omega (arith, c.loop-i-test.false, l.invariant.1) in
+    subst (λ (n : ℕ). PutBy batch_by (map noted_line (take c.args.done c.args.records)) c.args.out.now c.args.at (record { count = n; at = l.next }) l.out) all
+    (l.invariant.0 _ _ (notes_end c.args.done c.args.records l.i (few (goal.at.returns c).Start) (omega (arith, c.loop-i-test.false)) _ _))

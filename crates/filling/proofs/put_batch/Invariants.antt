@@ -1,5 +1,5 @@
--- The invariant: what is so from here is so from the start. The measure is how many records are left. Assumes nothing.
-use Prim.Native.Nat.{◌-◌, ◌≤◌}
+-- The invariant: what is so from here is so from the start. Assumes nothing.
+use Prim.Native.Nat.{◌≤◌}
 use mathlib.Core.List.{map}
 use mathlib.Core.Path.{◌≡◌}
 use lib.ListN.{length, take, drop}
@@ -12,6 +12,3 @@ invariant-loop-i l =
     From batch_by (map noted_line (take l.done l.records)) l.initial.out l.at (λ (p : Puts). batch_by (further l.i p)) (map noted_line (drop l.i (take l.done l.records))) l.out l.next
     × (l.i ≤ l.done)
     × (length l.out ≡ length l.initial.out)
-
-abbrev pub decreases-loop-i : goal.decreases-loop-i
-decreases-loop-i l = l.done - l.i

@@ -1,4 +1,4 @@
--- The invariant: what is so from here is so from the start. The measure is how many flows are left. Assumes nothing.
+-- The invariant: what is so from here is so from the start. Assumes nothing.
 use Prim.Native.Nat.{◌<◌}
 use mathlib.Core.Path.{refl, ◌∙◌}
 use native.Mathlib.Omega.{arith}
@@ -18,20 +18,11 @@ module _ (p : In-loop-i) where
   low : p.loop-i.i < 16
   low = omega (arith, below, flow-count-le p.args.simulation)
 
-pub offset_bounds-simulation-k : goal.offset_bounds-simulation-k
-offset_bounds-simulation-k c = omega (arith, low c)
-
 pub bounds-simulation-k : goal.bounds-simulation-k
-bounds-simulation-k c = omega (arith, low c)
-
-pub offset_bounds-simulation-k-in-loop-i : goal.offset_bounds-simulation-k-in-loop-i
-offset_bounds-simulation-k-in-loop-i c = omega (arith, low (goal.at.offset_bounds-simulation-k-in-loop-i c).In-loop-i)
+bounds-simulation-k c = low (goal.at.bounds-simulation-k c).In-loop-i
 
 pub bounds-simulation-k-in-loop-i : goal.bounds-simulation-k-in-loop-i
-bounds-simulation-k-in-loop-i c = omega (arith, low (goal.at.bounds-simulation-k-in-loop-i c).In-loop-i)
-
-pub loop-i-smaller : goal.loop-i-smaller
-loop-i-smaller c = omega arith
+bounds-simulation-k-in-loop-i c = low (goal.at.bounds-simulation-k-in-loop-i c).In-loop-i
 
 pub loop-i-preserved : goal.loop-i-preserved
 loop-i-preserved c =

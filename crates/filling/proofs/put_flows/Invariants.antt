@@ -1,5 +1,4 @@
--- The invariant: what is so from here is so from the start. The measure is how many flows are left. Assumes nothing.
-use Prim.Native.Nat.{◌-◌}
+-- The invariant: what is so from here is so from the start. Assumes nothing.
 use mathlib.Core.Path.{◌≡◌}
 use lib.ListN.{length}
 use Rattle.lines.specs.Lines.{flows_from}
@@ -12,6 +11,3 @@ abbrev pub invariant-loop-i : goal.invariant-loop-i
 invariant-loop-i l =
     From (filled_by (rest_at l.simulation (Stage.Flows l.first))) (flows_from l.simulation l.first) l.initial.out l.at (filled_by (rest_at l.simulation (Stage.Flows l.i))) (flows_from l.simulation l.i) l.out l.next
     × (length l.out ≡ length l.initial.out)
-
-abbrev pub decreases-loop-i : goal.decreases-loop-i
-decreases-loop-i l = l.n - l.i
