@@ -17,7 +17,8 @@ use toggler::{Picked, Queued};
 // of it, and stores it; where nothing changes, what was there is stored again. A link's arm is for
 // either line l, whose packets lie in the places from 512 l on; a packet that the bouncer passes on to
 // the return line has a branch of its own there. No tick changes the network, so the senders' packet
-// bits are read from a copy that is made once.
+// bits are read from a copy that is made once. `done` goes up in every second round, so no `for` counts
+// it.
 pub fn advance(simulation: Simulation, n: u32) -> Recorded
     ensures { result ≡ advance_of n 0 (replicate batch no_noted) simulation }
 {

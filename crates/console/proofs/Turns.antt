@@ -1,5 +1,6 @@
 -- The bytes put into a buffer, then those of the lines left, are those of all the lines; and what the loop of turns keeps. Assumes nothing.
 use Prim.Native.Nat.{ℕ, ◌+◌, ◌-◌, ◌*◌, ◌^◌, ◌≤◌, ◌<◌}
+use Rattle.std.proofs.Common.{Result, Ok}
 use mathlib.Core.Bool.{true, false, true≢false}
 use mathlib.Core.List.{List, [], ◌∷◌, ◌++◌, flatten, append_assoc}
 use mathlib.Core.Path.{◌≡◌, refl, sym, ap, ◌∙◌, subst}
@@ -17,8 +18,7 @@ use Rattle.filling.proofs.Left.{left_is}
 use Rattle.filling.proofs.Few.{fills}
 use Rattle.console.specs.declared.Turn.{Turn}
 use Rattle.console.specs.declared.output.Tally.{Tally}
-use Rattle.console.specs.declared.output.Handed.{Handed}
-use Rattle.console.specs.declared.output.Handed.TheVariants.{All}
+use Rattle.console.specs.declared.output.WriteFailed.{WriteFailed}
 use Rattle.console.specs.Turns.{TurnIs, HandedIs}
 
 -- ---- lines in a buffer
@@ -97,7 +97,7 @@ module _ (report left : Report) (handed turns : ℕ) (h : Kept report left hande
     pub fits : handed + length (take t.count t.bytes) < 2 ^ 64
     fits = omega (arith, h.small, w.within, few)
 
-    pub next : (r : Handed) → HandedIs (handed + length (take t.count t.bytes)) r → (after : Tally) → r ≡ All after → Next report t after.0 turns
+    pub next : (r : Result Tally WriteFailed) → HandedIs (handed + length (take t.count t.bytes)) r → (after : Tally) → r ≡ Ok after → Next report t after.0 turns
     next r q after e =
         let put = take t.count t.bytes in
         let rest = flatten (left_of t.report) in

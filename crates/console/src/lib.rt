@@ -46,11 +46,11 @@ fn print(rt: &HostRuntime, report: Report) -> Result<Tally, WriteFailed>
 {
     let mut left = report;
     let mut tally = output::nothing();
-    for _ in 0..65553 {
+    for _ in 0..65553u32 {
         let turn = next_turn(left);
         tally = output::hand(rt, tally, &turn.bytes[..turn.count])?;
         if turn.done {
-            break;
+            return Ok(tally);
         }
         left = turn.report;
     }

@@ -1,5 +1,5 @@
 -- What holds of what a text is read as. Assumes nothing.
-use Rattle.std.proofs.Common.{ℕ, List, Result, Ok, Err, ◌≡◌, ap, ◌∙◌}
+use Rattle.std.proofs.Common.{ℕ, List, Result, ◌≡◌, ap, ◌∙◌}
 use Rattle.description.specs.declared.Description.{Description}
 use Rattle.description.specs.declared.Malformed.{Malformed}
 use Rattle.description.specs.Text.{ReadAs, given, malformed, ReadIs}

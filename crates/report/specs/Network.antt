@@ -5,7 +5,6 @@ use Rattle.std.specs.Float.Ieee.{of_bits}
 use Rattle.draws.specs.declared.distribution.ContinuousDistribution.{ContinuousDistribution}
 use Rattle.draws.specs.declared.distribution.ContinuousDistribution.TheVariants as Distribution
 use Rattle.sender.specs.declared.lossy.Policy.{Policy}
-use Rattle.sender.specs.declared.lossy.Policy.TheVariants as Policy
 use Rattle.remy.specs.declared.network.RemyNetwork.{RemyNetwork}
 use Rattle.description.specs.declared.Description.{Description}
 use Rattle.description.specs.declared.Distribution as D

@@ -8,7 +8,6 @@ use Rattle.description.specs.declared.Malformed.{Malformed}
 use Rattle.description.specs.Text.{Written, text_of, InWidth, ReadAs, given, malformed, answer_of}
 use Rattle.printer.specs.Printing.{refused_text}
 use Rattle.report.specs.declared.run.Stage.{Stage}
-use Rattle.report.specs.declared.run.Stage.TheVariants as Stage
 use Rattle.report.specs.declared.run.Report.{Report}
 use Rattle.report.specs.Network.{network_of}
 use Rattle.lines.specs.Lines.{flows_from, end_lines, run_lines}

@@ -17,7 +17,6 @@ use Rattle.description.specs.declared.Description.{Description}
 use Rattle.description.specs.Text.{Written, InWidth, ReadAs, given, malformed, description_of, answer_of}
 use Rattle.printer.specs.Printing.{refused_text, record_text, stop_text, written}
 use Rattle.report.specs.declared.run.Stage.{Stage}
-use Rattle.report.specs.declared.run.Stage.TheVariants as Stage
 use Rattle.report.specs.declared.run.Report.{Report}
 use Rattle.lines.specs.Lines.{record_line, record_lines, stop_line, end_lines, run_lines}
 use Rattle.report.specs.Network.{network_of}

@@ -7,7 +7,6 @@ ghost use Rattle.report.specs.Report.{ForText, report_of};
 ghost use Rattle.filling.specs.Filling.{end_of};
 ghost use Rattle.sweep.specs.Sweep.{count_of, CountPut, Enough, enough_for, enough_for_each, enough_for_flows};
 
-
 // The position after all lines, as their count, or 0 where there was too little room.
 fn counted(put: Option<usize>) -> usize
     ensures { result ≡ count_of put }

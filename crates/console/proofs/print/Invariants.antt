@@ -1,9 +1,7 @@
--- The loop keeps what `Kept` says.
+-- The loop keeps what `Kept` says, of the turns that are left.
+use Rattle.std.proofs.Common.{◌-◌}
 use Rattle.console.proofs.Turns.{Kept}
 use Rattle.console.proofs.print.Given as goal
 
-abbrev pub invariant-loop-turns : goal.invariant-loop-turns
-invariant-loop-turns l = Kept l.fn.report l.left l.tally.0 l.turns
-
-abbrev pub decreases-loop-turns : goal.decreases-loop-turns
-decreases-loop-turns l = l.turns
+abbrev pub invariant-loop : goal.invariant-loop
+invariant-loop l = Kept l.fn.report l.left l.tally.0 (65553 - l.counter)

@@ -1,5 +1,5 @@
 -- The report of the answer that the text is read with. Assumes nothing.
-use Rattle.std.proofs.Common.{[], ◌∷◌, ◌≡◌, refl, ap, ◌∙◌, sym}
+use Rattle.std.proofs.Common.{[], ◌∷◌, ◌≡◌, refl}
 use Rattle.report.specs.Report.{answered_of}
 use Rattle.report.proofs.Texts.{for_text}
 use Rattle.notation.specs.InPlace.{NoBytes, calls_of}
