@@ -9,19 +9,18 @@ ghost use Rattle.remy.specs.Run.{run_of};
 ghost use Rattle.reading.specs.Flow.{told_flow, flow_of};
 
 use draws::ContinuousDistribution;
-use flows::Rtt;
-use link::{LineValues};
-use meters::FlowRead;
+use flows::{FlowProperties, NoPacketsAcked};
+use link::LineValues;
+use meters::FlowReadError;
 use quantities::float::to_bits;
-use reading::SenderFlow;
-use remy::{RemyNetwork};
+use remy::RemyNetwork;
 use sender::Policy;
 use std::io;
 
 fn main(rt: HostRuntime) -> io::Result<()> {
     match flow(network(), 1) {
-        SenderFlow::Of(read) => print(&rt, read),
-        SenderFlow::NoSender => println!(rt; "no sender"),
+        Some(read) => print(&rt, read),
+        None => println!(rt; "no sender"),
     }
 }
 
@@ -50,7 +49,7 @@ fn network() -> RemyNetwork {
 // run of 1, and `run` that six ticks of what one tick gave are seven ticks: so a run can be made in
 // parts. Each of the answers has a number too: 0, or why it refused. A refused build gives a simulation
 // without senders, so the read then answers that there is no sender.
-fn flow(network: RemyNetwork, seed: u64) -> SenderFlow
+fn flow(network: RemyNetwork, seed: u64) -> Option<Result<FlowProperties, FlowReadError>>
     ensures { told_flow result ≡ flow_of (run_of 7 (build_of network seed).simulation).simulation 0 }
 {
     let built = builder::build(network, seed);
@@ -61,16 +60,16 @@ fn flow(network: RemyNetwork, seed: u64) -> SenderFlow
 
 // The rate and the round-trip time, where there are any: 4 bit/s and 1 s here. A double is printed by its
 // 64 bits, as 16 hexadecimal digits.
-fn print(rt: &impl Print, read: FlowRead) -> io::Result<()> {
+fn print(rt: &impl Print, read: Result<FlowProperties, FlowReadError>) -> io::Result<()> {
     match read {
-        FlowRead::Properties(flow) => {
+        Ok(flow) => {
             println!(rt; "rate={:016x}", to_bits(flow.throughput.0))?;
             match flow.rtt {
                 Ok(span) => println!(rt; "rtt={:016x}", to_bits(span.0)),
                 Err(NoPacketsAcked) => println!(rt; "no packet counted"),
             }
         }
-        FlowRead::NeverActive => println!(rt; "never on"),
-        FlowRead::Refused => println!(rt; "refused"),
+        Err(FlowReadError::NeverActive) => println!(rt; "never on"),
+        Err(FlowReadError::Refused) => println!(rt; "refused"),
     }
 }

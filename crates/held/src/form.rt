@@ -120,12 +120,7 @@ impl fmt::Display for Form<&Simulation> {
 impl fmt::Display for Form<Head> {
     fn fmt<W: fmt::Write>(&self, f: &mut fmt::Formatter<W>) -> fmt::Result {
         let head = self.0;
-        write!(
-            f,
-            "clock={} next={}",
-            Form(head.clock),
-            OrDash(head.next)
-        )
+        write!(f, "clock={} next={}", Form(head.clock), OrDash(head.next))
     }
 }
 

@@ -11,7 +11,7 @@
 mod sum;
 mod texts;
 
-use description::ReadDescription;
+use description::{Description, Malformed};
 use script::Line;
 use script::input::read_full;
 use std::{fmt, io};
@@ -49,17 +49,17 @@ fn rounds(list: &[u8]) -> Tally {
 
 impl Tally {
     // The tally with one answer more.
-    fn with(self, answer: ReadDescription) -> Self {
-        if answer.number != 0 {
-            return Tally {
+    fn with(self, answer: Result<Description, Malformed>) -> Self {
+        match answer {
+            Ok(description) => Tally {
+                given: self.given.saturating_add(1),
+                sum: self.sum.described(description),
+                ..self
+            },
+            Err(_) => Tally {
                 malformed: self.malformed.saturating_add(1),
                 ..self
-            };
-        }
-        Tally {
-            given: self.given.saturating_add(1),
-            sum: self.sum.described(answer.description),
-            ..self
+            },
         }
     }
 }

@@ -9,8 +9,8 @@ ghost use Rattle.lines.specs.Lines.{run_lines};
 ghost use Rattle.report.specs.Report.{left_of};
 
 use draws::ContinuousDistribution;
-use link::{LineValues};
-use remy::{RemyNetwork};
+use link::LineValues;
+use remy::RemyNetwork;
 use report::{Report, Stage};
 use sender::Policy;
 use std::io;

@@ -4,7 +4,7 @@
 #![tactic(auto)]
 
 use draws::distribution::sample;
-use draws::{ContinuousDistribution, PositiveSample, Rng, SplitMix64};
+use draws::{ContinuousDistribution, Rng, SplitMix64};
 use quantities::{Information, InformationRate, Time, TimeSpan};
 use script::print::Double;
 use std::io;
@@ -147,16 +147,12 @@ fn draws(rt: &impl Print) -> io::Result<()> {
 
 // Document 01's number of a redraw, its value if any, and the generator's words after it.
 fn positive(rt: &impl Print, d: ContinuousDistribution, rng: Rng) -> io::Result<()> {
-    match d.sample_positive(rng) {
-        PositiveSample::Positive(value, after) => {
-            println!(rt; "0\n{}", Double(value))?;
-            words_lines(rt, after)
-        }
-        PositiveSample::Spent(after) => {
-            println!(rt; "8")?;
-            words_lines(rt, after)
-        }
+    let drawn = d.sample_positive(rng);
+    match drawn.value {
+        Some(value) => println!(rt; "0\n{}", Double(value))?,
+        None => println!(rt; "8")?,
     }
+    words_lines(rt, drawn.rng)
 }
 
 fn units(rt: &impl Print) -> io::Result<()> {
@@ -167,11 +163,9 @@ fn units(rt: &impl Print) -> io::Result<()> {
         Time::SIM_START.0.0,
         Time::MAX.0.0,
         Time::MIN.0.0,
-        Information(11200).div_rate(InformationRate(3.0)).0,
-        Information(9007199254740993)
-            .div_rate(InformationRate(1.0))
-            .0,
-        Information(8).div_span(TimeSpan(0.1)).0,
+        (Information(11200) / InformationRate(3.0)).0,
+        (Information(9007199254740993) / InformationRate(1.0)).0,
+        (Information(8) / TimeSpan(0.1)).0,
     ] {
         println!(rt; "{}", Double(value))?;
     }
