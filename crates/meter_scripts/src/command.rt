@@ -63,7 +63,6 @@ fn flow(line: Line) -> FlowProperties {
     }
 }
 
-
 fn rtt(line: Line, k: usize) -> Result<TimeSpan, NoPacketsAcked> {
     match line.field(k) {
         None => Err(NoPacketsAcked),
