@@ -1,6 +1,6 @@
 // The parts that every line of a description is made of, read where they lie: a word, a double, a whole
-// number. A reader answers the value and the position after it. Each has the text and a position, as `Reads` of specs is
-// of both, so they are no struct.
+// number. A reader answers the value and the position after it. Each has the text and a position, as `Reads` of specs
+// is of both, so they are no struct.
 ghost use Rattle.std.specs.Prelude.{◌≤◌, ◌<◌, ◌≡◌, [], ◌∷◌};
 ghost use Rattle.notation.specs.Reading.{Reads, ReadsDigits, ReadsWord, ReadsKey, DigitIs, NoDigit, placed, led_by_zero, word_form, hex_form, decimal_form};
 
