@@ -14,7 +14,8 @@ use crate::output::{Tally, WriteFailed};
 use report::Report;
 
 // A part of a report: the first so many bytes of a buffer, whether nothing is left after them, and the
-// report of what is left.
+// report of what is left: no Option, as `TurnIs` gives the report where nothing is left too. It cites the buffer and the
+// count too, so they are no slice.
 #[derive(Clone, Copy)]
 struct Turn {
     bytes: [u8; 65536],

@@ -9,13 +9,15 @@ mod lines;
 
 use lines::{Course, Link, Load, bits_line, counted, course_lines, link_lines, load_lines};
 
-// A double is held as its 64 bits.
+// A double is held as its 64 bits, so that what a text says is told again: `ContinuousDistribution` of draws has doubles,
+// and the reader's crates depend on no other.
 #[derive(Clone, Copy)]
 pub enum Distribution {
     Always(u64),
     Uniform(u64, u64),
 }
 
+// `Policy` of sender has a double where this has its bits.
 #[derive(Clone, Copy)]
 pub enum Policy {
     Held(u32),

@@ -1,4 +1,5 @@
-// The lines of a description. A reader answers what it read and the position after it.
+// The lines of a description. A reader answers what it read and the position after it. Each has the text and a position,
+// as `Reads` of specs is of both, so they are no struct.
 #![tactic(auto, using(crate::proofs::Cases::lf_ends, crate::proofs::Cases::colon_ends, crate::proofs::Cases::comma_ends))]
 
 ghost use Rattle.std.specs.Prelude.{◌+◌, ◌^◌, ◌≤◌, ◌<◌, [], ◌∷◌, ◌≡◌};
@@ -54,7 +55,7 @@ pub const SEED: u64 = 0x73_65_65_64_3d; // seed=
 
 pub const TICKS: u64 = 0x74_69_63_6b_73_3d; // ticks=
 
-// How a number is written: as a double, or whole and at most a given number.
+// How a number is written: as a double, or whole and at most a given number. Two forms by name, so no Option.
 #[derive(Clone, Copy)]
 pub enum Kind {
     Double,
@@ -63,7 +64,8 @@ pub enum Kind {
 
 // A number, and the byte that ends it.
 //
-// A helper within this crate: the caller gives an end that is no digit.
+// A helper within this crate: the caller gives an end that is no digit. It is a byte: an enum of the three ends would
+// ask more of a caller.
 pub(crate) fn ended(text: &[u8], at: usize, kind: Kind, end: u8) -> Option<(u64, usize)>
     requires { NoDigit 16 (end ∷ []) }
     ensures { Reads (kind_form kind end) text.now at result }
@@ -76,7 +78,7 @@ pub(crate) fn ended(text: &[u8], at: usize, kind: Kind, end: u8) -> Option<(u64,
 
 // A word, a number, and the byte that ends it.
 //
-// A helper within this crate: the caller gives the value of a word, and an end that is no digit.
+// A helper within this crate: the caller gives the value of a word, and an end that is no digit, a byte as in `ended`.
 pub(crate) fn value(text: &[u8], at: usize, word: u64, kind: Kind, end: u8) -> Option<(u64, usize)>
     requires { NoDigit 16 (end ∷ []) }
     ensures { ForWord word (λ w. Reads (keyed w (kind_form kind end)) text.now at result) }
@@ -123,7 +125,7 @@ pub(crate) fn distribution_value(text: &[u8], at: usize) -> Option<(Distribution
     None
 }
 
-// on or off.
+// on or off. It and `policy_line` are no generic over the reader of a value: `in_place` counts a type parameter as an array.
 //
 // A helper within this crate: the caller gives the value of a word.
 pub(crate) fn distribution_line(text: &[u8], at: usize, word: u64) -> Option<(Distribution, usize)>
@@ -161,7 +163,7 @@ pub(crate) fn policy_line(text: &[u8], at: usize) -> Option<(Policy, usize)>
     policy_value(text, next)
 }
 
-// The link: delay, rate, loss and limit.
+// The link: delay, rate, loss and limit. `LineValues` of link has doubles where this has their bits.
 #[derive(Clone, Copy)]
 pub struct Link {
     pub delay: u64,
@@ -186,7 +188,8 @@ pub(crate) fn link_lines(text: &[u8], at: usize) -> Option<(Link, usize)>
     Some((link, next))
 }
 
-// What the `bits` line says: how many values it has, and the numbers that a description holds.
+// What the `bits` line says: how many values it has, and the numbers that a description holds. The count goes on above
+// the 16 places.
 #[derive(Clone, Copy)]
 pub struct Sizes {
     pub count: usize,
@@ -218,6 +221,7 @@ pub(crate) fn bits_line(text: &[u8], at: usize) -> Option<(Sizes, usize)>
         values: [0; 16],
     };
     let mut last = from;
+    // no index is counted, and an iterator of the values would be no plainer
     while let Some((v, next)) = decimal(text, last, u64::MAX, b',') {
         sizes = with_value(sizes, v);
         last = next;

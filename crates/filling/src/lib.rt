@@ -1,5 +1,5 @@
 // The lines of a report put into a lent buffer, in one go or part by part (document 01, "The text
-// program").
+// program"). `PutBy` of specs is of a buffer and a position, so what puts lines at a position has both.
 #![tactic(auto)]
 
 ghost use Rattle.std.specs.Prelude.{◌≤◌, ◌≡◌, [], ◌∷◌, map, ltb, take};
@@ -15,7 +15,8 @@ use printer::refused_line;
 use remy::{Noted, Simulation};
 use report::{Report, Stage, report_of};
 
-// A buffer filled up to a position, whether nothing is left, and the report of what is left.
+// A buffer filled up to a position, whether nothing is left, and the report of what is left: no Option, as `FilledIs`
+// gives the report where nothing is left too.
 #[derive(Clone, Copy)]
 pub struct Filled {
     pub at: usize,
@@ -73,6 +74,7 @@ fn put_records(out: &mut [u8], at: usize, simulation: Simulation, n: u32) -> Fil
     let mut st = simulation;
     let mut left = n;
     let mut next = at;
+    // `left` falls by what a batch did, so no `for`
     while 0 < left {
         let b = simulation::records(st, left);
         let put = put_batch(out, next, b.records, b.done);
@@ -158,7 +160,8 @@ fn put_run(out: &mut [u8], n: u32, simulation: Simulation) -> Filled
     }
 }
 
-// The next lines of a report, as many as have room in the buffer, from its start.
+// The next lines of a report, as many as have room in the buffer, from its start. An enum's cases are plainer here than
+// closures for the steps.
 pub fn fill(out: &mut [u8], report: Report) -> Filled
     ensures { FilledIs report out.old result out.new }
 {

@@ -1,4 +1,5 @@
-// The lines of a run (document 01, "The text program"), each put into a lent buffer at a position.
+// The lines of a run (document 01, "The text program"), each put into a lent buffer at a position: `PutIs` of printer is
+// of both.
 #![tactic(auto)]
 
 ghost use Rattle.std.specs.Prelude.{◌≡◌};
@@ -15,7 +16,7 @@ use quantities::float::to_bits;
 use remy::{Mark, Simulation, TickRecord};
 use sender::LossySender;
 
-// A mark as its letter.
+// A mark as its letter. The crate `held`, which does not depend on this one, has the letters as words.
 fn letter(mark: Mark) -> u8
     ensures { result ≡ letter_of mark }
 {

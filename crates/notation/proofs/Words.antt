@@ -8,8 +8,9 @@ use lib.Dec.{ltb, eqb}
 use lib.ListN.{length, drop, get_or}
 use borrow.Author.Tests.{ltb-true, ltb-false, eqb-true, eqb-false}
 use Rattle.std.proofs.lemmas.Bool.Decides.{nat_tests}
+use Rattle.std.specs.Bool.{then_some}
 use Rattle.std.specs.Char.{is_ascii_lowercase}
-use Rattle.notation.specs.Reading.{Found, Absent, word_form, Spells, last, more, SomeWord, NoWord}
+use Rattle.notation.specs.Reading.{Found, Absent, word_form, Spells, last, more, SomeWord, NoWord, ReadsKey}
 use Rattle.notation.proofs.Digits.{at_byte, at_end}
 
 -- ---- a fixed word
@@ -120,6 +121,14 @@ module _ {text : List ℕ} {at : ℕ} {w : List ℕ} {k : ℕ} (r : Spells 0 w k
 
   pub key_none : NoWord text at → k < 2 ^ 64 → Absent (word_form w) text at
   key_none absent h = record { none = λ _ rest e _. absent.none w rest k e r h }
+
+-- what `key` answers for a word that was read
+pub key_told : {text : List ℕ} {at v next : ℕ} (k : ℕ) → SomeWord text at v next → ReadsKey k text at (then_some (eqb v k) next)
+key_told {text} {at} {v} {next} k some = cases (eqb v k) refl
+  where
+    cases : (t : Bool) → eqb v k ≡ t → ReadsKey k text at (then_some t next)
+    cases true e = subst (λ (x : ℕ). SomeWord text at x next) (eqb-true v k e) some
+    cases false e = λ w r. key_other r some (eqb-false v k e)
 
 -- ---- a word as it is read: what stands from next on, after letters of a value, and what stands from at on
 

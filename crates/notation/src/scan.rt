@@ -1,11 +1,13 @@
 // The parts that every line of a description is made of, read where they lie: a word, a double, a whole
-// number. A reader answers the value and the position after it.
+// number. A reader answers the value and the position after it. Each has the text and a position, as `Reads` of specs
+// is of both, so they are no struct.
 ghost use Rattle.std.specs.Prelude.{◌≤◌, ◌<◌, ◌≡◌, [], ◌∷◌};
 ghost use Rattle.notation.specs.Reading.{Reads, ReadsDigits, ReadsWord, ReadsKey, DigitIs, NoDigit, placed, led_by_zero, word_form, hex_form, decimal_form};
 
 // The value of a lower-case hexadecimal digit.
 //
 // The hint here and on `digits` is for speed: without both, a well-formed description takes a sixth longer to read.
+// The crate `script` has one of its own: the reader's crates depend on no other, and this one is private.
 #[inline(always)]
 fn digit(b: u8) -> Option<u64>
     ensures { DigitIs b result }
@@ -19,7 +21,8 @@ fn digit(b: u8) -> Option<u64>
 
 // The digits from a position up to the first byte that is none, if their value is at most `most`.
 //
-// A helper within this crate: the caller gives a base of 1 to 16.
+// A helper within this crate: the caller gives a base of 1 to 16. No `parse` of std: it takes leading zeros, and it
+// takes all of what it is given, where the end is not known here.
 #[inline(always)]
 fn digits(text: &[u8], at: usize, base: u64, most: u64) -> Option<(u64, usize)>
     requires { (0 < base) × (base ≤ 16) }
@@ -61,22 +64,24 @@ pub fn key(text: &[u8], at: usize, key: u64) -> Option<usize>
     ensures { ReadsKey key text.now at result }
 {
     let (value, next) = word(text, at)?;
-    if value == key { Some(next) } else { None }
+    (value == key).then_some(next)
 }
 
 // One byte.
 fn byte(text: &[u8], at: usize, b: u8) -> Option<usize>
     ensures { Reads (word_form (b ∷ [])) text.now at (placed result) }
 {
-    match text.get(at) {
-        Some(&found) if found == b => Some(at + 1),
-        _ => None, // another byte, or the text ends
+    if at < text.len() && text[at] == b {
+        Some(at + 1)
+    } else {
+        None // another byte, or the text ends
     }
 }
 
 // A double: 16 hexadecimal digits, and the byte that ends it.
 //
-// A helper for the crate `description`, and no entry point: the caller gives an end that is no digit.
+// A helper for the crate `description`, and no entry point: the caller gives an end that is no digit. It is a byte: an
+// enum of the three ends would ask more of a caller.
 pub fn hex16(text: &[u8], at: usize, end: u8) -> Option<(u64, usize)>
     requires { NoDigit 16 (end ∷ []) }
     ensures { Reads (hex_form end) text.now at result }
@@ -97,7 +102,8 @@ fn led(first: u8, count: usize) -> bool
 
 // A whole number: decimal without leading zeros, at most `most`, and the byte that ends it.
 //
-// A helper for the crate `description`, and no entry point: the caller gives an end that is no digit.
+// A helper for the crate `description`, and no entry point: the caller gives an end that is no digit. It is a byte: an
+// enum of the three ends would ask more of a caller.
 pub fn decimal(text: &[u8], at: usize, most: u64, end: u8) -> Option<(u64, usize)>
     requires { NoDigit 16 (end ∷ []) }
     ensures { Reads (decimal_form most end) text.now at result }

@@ -1,4 +1,6 @@
-// The printed lines, put into a lent buffer at a position.
+// The printed lines, put into a lent buffer at a position. `PutIs` of specs is of a buffer and a position, so each line's
+// function has both. The numbers are written by hand: `write!` says which bytes it wrote where it is Ok, and no contract
+// says where it is, as `PutIs` does of a line with room.
 #![tactic(auto)]
 
 ghost use Rattle.std.specs.Prelude.{◌+◌, ◌≤◌, ◌<◌, ◌≡◌, [], ◌∷◌, length};
@@ -146,7 +148,8 @@ impl<'a> Pen<'a> {
     }
 }
 
-// A tick's record. The position after the line, or None where fewer than 128 bytes are left.
+// A tick's record, its parts as `record_text` names each. The position after the line, or None where fewer than 128 bytes
+// are left.
 pub fn record_line(
     out: &mut [u8],
     at: usize,
@@ -200,7 +203,7 @@ pub fn refused_line(out: &mut [u8], at: usize, number: u32) -> Option<usize>
     Some(pen.at)
 }
 
-// A flow.
+// A flow, its parts as `flow_text` names each.
 pub fn flow_line(
     out: &mut [u8],
     at: usize,
