@@ -47,8 +47,8 @@ fn network() -> RemyNetwork {
 // The flow of sender 0 after seven ticks. The contract says it by the definitions of build, run and
 // flow, for every network and seed; it follows from the contracts of the four calls. `tick` says that it is a
 // run of 1, and `run` that six ticks of what one tick gave are seven ticks: so a run can be made in
-// parts. Each of the answers has a number too: 0, or why it refused. A refused build gives a simulation
-// without senders, so the read then answers that there is no sender.
+// parts. What build, tick and run answer has a number too: 0, or why it refused or stopped. A refused build
+// gives a simulation without senders, so the read then answers None: there is no sender.
 fn flow(network: RemyNetwork, seed: u64) -> Option<Result<FlowProperties, FlowReadError>>
     ensures { told_flow result ≡ flow_of (run_of 7 (build_of network seed).simulation).simulation 0 }
 {

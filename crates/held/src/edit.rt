@@ -14,6 +14,7 @@ use toggler::{Queued, Toggler};
 
 // Puts the part of a line's letter anew.
 pub(crate) fn edit(line: Line, st: &mut Simulation) {
+    // The kinds are the script's letters: an enum of them would be matched on here again.
     match line.kind() {
         b'V' => st.network = network(line),
         b'C' => st.head = head(line),
@@ -140,6 +141,7 @@ fn toggler(line: Line) -> Toggler {
 }
 
 // M i total-time start bits records rtt-sum
+// Also in `meter_scripts`, from its own fields: `script`, on which both depend, depends on no meters.
 fn meter(line: Line) -> AverageFlowMeter {
     AverageFlowMeter {
         total_time: TimeSpan(line.double(1)),

@@ -43,6 +43,7 @@ impl fmt::Display for Form<TickRecord> {
     }
 }
 
+// `lines` has these letters as bytes, in a function of its own that it does not give to others.
 impl fmt::Display for Form<Mark> {
     fn fmt<W: fmt::Write>(&self, f: &mut fmt::Formatter<W>) -> fmt::Result {
         f.write_str(match self.0 {

@@ -28,6 +28,7 @@ impl States {
 
     // Carries out the command of a line.
     pub(crate) fn obey(&mut self, rt: &impl Print, line: Line) -> io::Result<()> {
+        // The kinds are the script's letters: an enum of them would be matched on here again.
         match line.kind() {
             b'H' => {
                 lines(line, &mut Shown(rt))?;

@@ -37,6 +37,7 @@ impl Bench {
     // Carries out a command, and prints its answer, if it has one.
     pub(crate) fn obey(&mut self, rt: &impl Print, command: Command) -> io::Result<()> {
         let meter = self.meter;
+        // The kinds are the letters of a script, each with values of its own.
         match command {
             Command::Meter(new) => {
                 self.meter = new;

@@ -39,6 +39,7 @@ impl Command {
     }
 }
 
+// Also in `held`, from its own fields: `script`, on which both depend, depends on no meters.
 fn meter(line: Line) -> AverageFlowMeter {
     AverageFlowMeter {
         total_time: TimeSpan(line.double(0)),
@@ -64,8 +65,7 @@ fn flow(line: Line) -> FlowProperties {
 }
 
 fn rtt(line: Line, k: usize) -> Result<TimeSpan, NoPacketsAcked> {
-    match line.field(k) {
-        None => Err(NoPacketsAcked),
-        Some(bits) => Ok(TimeSpan(from_bits(bits))),
-    }
+    line.field(k)
+        .map(|bits| TimeSpan(from_bits(bits)))
+        .ok_or(NoPacketsAcked)
 }

@@ -61,18 +61,19 @@ fn back() -> LineValues {
 
 // What is to be printed of so many ticks. The contract says it by the definitions, for every network and
 // seed.
+#[tactic(auto, unfolding(report::specs::Report::left_of))]
 fn begun(network: RemyNetwork, seed: u64, ticks: u32) -> Report
     ensures { left_of result ≡ run_lines ticks (build_of network seed).simulation }
 {
-    let built = builder::build(network, seed);
-    let simulation = built.simulation;
-    let stage = Stage::Ticks(ticks);
-    Report { stage, simulation }
+    Report {
+        stage: Stage::Ticks(ticks),
+        simulation: builder::build(network, seed).simulation,
+    }
 }
 
 // A position in the buffer, as a count of its bytes.
 fn counted(at: usize) -> usize
     ensures { result ≤ 65536 }
 {
-    if at < 65536 { at } else { 65536 }
+    at.min(65536)
 }

@@ -75,10 +75,7 @@ impl Line<'_> {
     pub fn time_if_any(&self, k: usize) -> Option<Time>
         ensures { MatchOption result (field_of self.now.0.now k ≡ None) (λ time. (n : ℕ) × (field_of self.now.0.now k ≡ Some n) × (time.0.0 ≡ from_bits binary64 n)) }
     {
-        match self.field(k) {
-            None => None,
-            Some(bits) => Some(Time(TimeSpan(from_bits(bits)))),
-        }
+        self.field(k).map(|bits| Time(TimeSpan(from_bits(bits))))
     }
 }
 
@@ -98,6 +95,7 @@ fn field(k: usize) -> usize
 }
 
 // The value of a byte as a digit. There are no capitals, as `digit_of` says, so `to_digit` would take too much.
+// `notation` has such a function for itself. The crates of the reader depend on no other, so none is shared.
 #[tactic(auto, unfolding(crate::specs::Script::digit_of))]
 fn digit(b: u8) -> u64
     ensures { (result ≡ digit_of b) × (result < 16) }
