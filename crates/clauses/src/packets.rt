@@ -64,7 +64,7 @@ fn waiting_fit(
 
 // Whether each packet on line l is fit, and no due time is below the one before it. Two walks in one
 // function, as a function that reads packets by place copies all that there are.
-#[tactic(auto, using(crate::proofs::Turns::members, crate::proofs::Turns::falls), unfolding(crate::specs::Tests::on_line_test, crate::specs::Tests::transit_test, crate::specs::Tests::due_test))]
+#[tactic(auto, using(crate::proofs::Turns::members, crate::proofs::Turns::falls, quantities::proofs::Comparisons::no_later), unfolding(crate::specs::Tests::on_line_test, crate::specs::Tests::transit_test, crate::specs::Tests::due_test))]
 fn on_line_fit(
     senders: [LossySender; 16],
     n: u32,
@@ -89,7 +89,7 @@ fn on_line_fit(
     for j in 1..ring.count {
         let before = on_line[base + (ring.start + (j - 1)) % 512].due;
         let due = on_line[base + (ring.start + j) % 512].due;
-        if !(before.0.0 <= due.0.0) {
+        if !(before <= due) {
             return false;
         }
     }
@@ -150,7 +150,7 @@ pub fn packets_fit(
 }
 
 // Whether no packet on line l is due later than a time.
-#[tactic(auto, using(crate::proofs::Turns::members), unfolding(crate::specs::Tests::soon_on_test))]
+#[tactic(auto, using(crate::proofs::Turns::members, quantities::proofs::Comparisons::no_later), unfolding(crate::specs::Tests::soon_on_test))]
 fn due_soon(on_line: [Transit; 1024], l: usize, ring: Ring, latest: Time) -> bool
     requires { (l < 2) × (ring.start < 512) × (ring.count ≤ 512) }
     ensures { result ≡ soon_on_test latest on_line l ring }
@@ -158,7 +158,7 @@ fn due_soon(on_line: [Transit; 1024], l: usize, ring: Ring, latest: Time) -> boo
     let base = 512 * l;
     for i in 0..ring.count {
         let due = on_line[base + (ring.start + i) % 512].due;
-        if !(due.0.0 <= latest.0.0) {
+        if !(due <= latest) {
             return false;
         }
     }
