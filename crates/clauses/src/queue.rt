@@ -22,7 +22,7 @@ impl Parts<'_> {
     // The own next time of part k.
     //
     // A helper, and no entry point, as are the others here with a `requires`: the caller shows that there
-    // are at most 16 senders.
+    // are at most 16 senders. A state made by hand may have any number, so no type has this.
     #[tactic(auto, unfolding(crate::specs::Tests::part_time, crate::specs::Tests::role_time, remy::specs::State::role_of))]
     fn part_time(&self, k: usize) -> Option<Time>
         requires { self.now.n ≤ 16 }
