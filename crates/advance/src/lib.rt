@@ -44,6 +44,7 @@ pub fn advance(simulation: Simulation, n: u32) -> Recorded
                     part: 0,
                 };
                 for k in 0..parts {
+                    // No `pick` of toggler: a copy of the queue costs a tick.
                     let time = st.queue[k].time;
                     if toggler::tick_queue::is_sooner(time, best.time) {
                         best = Picked { time, part: k };
@@ -56,10 +57,11 @@ pub fn advance(simulation: Simulation, n: u32) -> Recorded
                 done += 1;
                 ripe = false;
             } else {
-                let fit = if steady { true } else { fitness::is_fit(st) };
+                let fit = steady || fitness::is_fit(st);
                 let network = st.network;
                 let clock = st.head.clock;
                 let now = queueing::whose_turn(fit, st.head, network.senders, network.back);
+                // An enum's cases are plainer than closures.
                 match now {
                     Now::Stop(number) => {
                         break 'ticks number;
@@ -209,9 +211,8 @@ pub fn advance(simulation: Simulation, n: u32) -> Recorded
                             break 'ticks toggle.number;
                         }
                         let toggled = toggle.toggler;
-                        let policy = network.policy;
                         let switched = turns::switched(
-                            policy,
+                            network.policy,
                             toggled.enabled,
                             st.senders[i],
                             clock,

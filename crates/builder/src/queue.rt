@@ -38,6 +38,7 @@ pub(crate) fn queue_all(simulation: Simulation) -> Simulation
     let clock = simulation.head.clock;
     let mut queue = [Queued { time: None }; 35];
     for k in 0..35 {
+        // An enum's cases are plainer than closures.
         let time = match role(k, network.senders, returns) {
             Now::Stop(_) => None,
             Now::Link(l) => {

@@ -1,4 +1,4 @@
--- The tests of a packet and of what holds one by what decides them, and the loops over the lines, over the senders and over the places of the queue. Assumes nothing.
+-- The tests of a packet and of what holds one by what decides them, and the loop over the lines. Assumes nothing.
 use Rattle.std.proofs.Common.{Option}
 use Prim.Native.Nat.{ℕ, ◌+◌, ◌*◌, ◌<◌}
 use mathlib.Core.Path.{◌≡◌, ap, ◌∙◌}
@@ -25,8 +25,8 @@ use Rattle.toggler.specs.declared.tick_queue.Queued.{Queued}
 use Rattle.toggler.specs.Queue.{no_queued}
 use Rattle.remy.specs.State.{no_line}
 use Rattle.remy.proofs.Facts.{both_l}
-use Rattle.ranges.proofs.UpTo.{up_stops, up_same}
-use Rattle.clauses.specs.Tests.{packet_test, line_of, lines_of, Counts, Added, senders_test, LinkTimes, place_test, part_time, places_test}
+use Rattle.ranges.proofs.UpTo.{up_same}
+use Rattle.clauses.specs.Tests.{packet_test, line_of, lines_of, Counts, Added, senders_test, LinkTimes}
 
 -- ---- packets
 
@@ -85,12 +85,3 @@ module _ (of : ℕ → Option Time) (times : List Queued) where
       each : (k : ℕ) → k < l + 1 → Dec (k ≡ l) → (get_or (set times l x) k no_queued).time ≡ of k
       each k m (yes same) = rw (same, get_or-set_same times l x no_queued h) e
       each k m (no other) = rw (get_or-set_other times l k x no_queued other) (t.each k (omega arith))
-
--- ---- places of the queue
-
-module _ (count : ℕ) (back : Bool) (links : List Queued) (clock : Time) (senders : List LossySender) (togglers : List Toggler) (queue : List Queued) (next : Option ℕ) where
-  pub places_stops : (n k : ℕ) → k < n
-      → place_test next clock k (get_or queue k no_queued).time (part_time count back links clock senders togglers k) ≡ false
-      → false ≡ places_test count back links clock senders togglers n queue next
-  unfolding places_test
-  places_stops n k h e = up_stops _ n k h e

@@ -21,7 +21,9 @@ fn sent_fit(sent: u32, clock: Time, packet: Packet) -> bool
 //
 // A helper, and no entry point, as are the others here with a `requires`: the caller shows that there
 // are at most 16 senders, that their packets have at most 2^24 bits, and that the rings' starts and
-// counts are in their ranges.
+// counts are in their ranges. A state made by hand may hold any of these, so no type has them.
+//
+// Six parameters and more, here and below: a struct of them would copy the arrays.
 #[tactic(auto, unfolding(crate::specs::Tests::packet_test))]
 fn packet_fit(senders: &[LossySender; 16], n: u32, clock: Time, packet: Packet) -> bool
     requires { n ≤ 16 }
@@ -64,7 +66,7 @@ fn waiting_fit(
 
 // Whether each packet on line l is fit, and no due time is below the one before it. Two walks in one
 // function, as a function that reads packets by place copies all that there are.
-#[tactic(auto, using(crate::proofs::Turns::members, crate::proofs::Turns::falls), unfolding(crate::specs::Tests::on_line_test, crate::specs::Tests::transit_test, crate::specs::Tests::due_test))]
+#[tactic(auto, using(crate::proofs::Turns::members, crate::proofs::Turns::falls, quantities::proofs::Comparisons::no_later), unfolding(crate::specs::Tests::on_line_test, crate::specs::Tests::transit_test, crate::specs::Tests::due_test))]
 fn on_line_fit(
     senders: [LossySender; 16],
     n: u32,
@@ -89,7 +91,7 @@ fn on_line_fit(
     for j in 1..ring.count {
         let before = on_line[base + (ring.start + (j - 1)) % 512].due;
         let due = on_line[base + (ring.start + j) % 512].due;
-        if !(before.0.0 <= due.0.0) {
+        if !(before <= due) {
             return false;
         }
     }
@@ -124,7 +126,8 @@ fn line_packets_fit(
     ) && on_line_fit(senders, n, clock, on_line, l, line.on_line)
 }
 
-// Whether the packets of the first so many lines are fit.
+// Whether the packets of the first so many lines are fit. A loop and no `all`, here and in `all_due_soon`,
+// so that no closure hands on a copy of the packets.
 //
 // A helper for `fitness`, and no entry point: `is_fit` has tested the network and the rings.
 #[tactic(auto, using(ranges::proofs::UpTo::up_goes, ranges::proofs::UpTo::up_stops, ranges::proofs::UpTo::up_done), unfolding(crate::specs::Tests::packets_test))]
@@ -149,8 +152,9 @@ pub fn packets_fit(
     true
 }
 
-// Whether no packet on line l is due later than a time.
-#[tactic(auto, using(crate::proofs::Turns::members), unfolding(crate::specs::Tests::soon_on_test))]
+// Whether no packet on line l is due later than a time. No `all`: a closure that reads packets by place
+// would copy all that there are at each call.
+#[tactic(auto, using(crate::proofs::Turns::members, quantities::proofs::Comparisons::no_later), unfolding(crate::specs::Tests::soon_on_test))]
 fn due_soon(on_line: [Transit; 1024], l: usize, ring: Ring, latest: Time) -> bool
     requires { (l < 2) × (ring.start < 512) × (ring.count ≤ 512) }
     ensures { result ≡ soon_on_test latest on_line l ring }
@@ -158,7 +162,7 @@ fn due_soon(on_line: [Transit; 1024], l: usize, ring: Ring, latest: Time) -> boo
     let base = 512 * l;
     for i in 0..ring.count {
         let due = on_line[base + (ring.start + i) % 512].due;
-        if !(due.0.0 <= latest.0.0) {
+        if !(due <= latest) {
             return false;
         }
     }

@@ -22,7 +22,7 @@ impl Parts<'_> {
     // The own next time of part k.
     //
     // A helper, and no entry point, as are the others here with a `requires`: the caller shows that there
-    // are at most 16 senders.
+    // are at most 16 senders. A state made by hand may have any number, so no type has this.
     #[tactic(auto, unfolding(crate::specs::Tests::part_time, crate::specs::Tests::role_time, remy::specs::State::role_of))]
     fn part_time(&self, k: usize) -> Option<Time>
         requires { self.now.n ≤ 16 }
@@ -47,11 +47,11 @@ impl Parts<'_> {
 }
 
 // Whether a queued time is at most 2^41 and not below the clock, or nothing is queued.
-#[tactic(auto, unfolding(crate::specs::Tests::queued_test))]
+#[tactic(auto, using(quantities::proofs::Comparisons::no_later), unfolding(crate::specs::Tests::queued_test))]
 fn queued_fit(clock: Time, queued: Option<Time>) -> bool
     ensures { result ≡ queued_test clock queued }
 {
-    queued.is_none_or(|t| time_held(t) && clock.0.0 <= t.0.0)
+    queued.is_none_or(|t| time_held(t) && clock <= t)
 }
 
 // Whether what is queued at place k is fit, where `own` is the part's own next time.
@@ -69,16 +69,11 @@ fn place_fit(
 }
 
 // Whether nothing is queued.
-#[tactic(auto, using(ranges::proofs::UpTo::up_goes), unfolding(crate::specs::Tests::empty_test))]
+#[tactic(auto, unfolding(crate::specs::Tests::empty_test))]
 fn is_empty(queue: [Queued; 35]) -> bool
     ensures { result ≡ empty_test 35 queue }
 {
-    for k in 0..35 {
-        if queue[k].time.is_some() {
-            return false;
-        }
-    }
-    true
+    (0..35).all(|k| queue[k].time.is_none())
 }
 
 // Whether the next part's own next time is the clock, or nothing is queued where no part is next.
@@ -94,17 +89,12 @@ fn next_fit(parts: &Parts, queue: [Queued; 35], next: Option<usize>) -> bool
 }
 
 // Whether each place of the queue is fit.
-#[tactic(auto, using(ranges::proofs::UpTo::up_goes), unfolding(crate::specs::Tests::places_test))]
+#[tactic(auto, unfolding(crate::specs::Tests::places_test))]
 fn places_fit(parts: &Parts, queue: [Queued; 35], next: Option<usize>) -> bool
     requires { parts.now.n ≤ 16 }
     ensures { result ≡ places_test parts.now.n parts.now.back parts.now.links parts.now.clock parts.now.senders.now parts.now.togglers.now 35 queue next }
 {
-    for k in 0..35 {
-        if !place_fit(next, parts.clock, k, queue[k].time, parts.part_time(k)) {
-            return false;
-        }
-    }
-    true
+    (0..35).all(|k| place_fit(next, parts.clock, k, queue[k].time, parts.part_time(k)))
 }
 
 // Whether the next part and each place of the queue are fit.

@@ -131,7 +131,7 @@ fn sender_fit(
 // the bits of sender i's packets, and of the counts how many of them wait or are on a line.
 //
 // A helper for `fitness`, and no entry point: `is_fit` has tested the network and counted over rings of 512 places.
-#[tactic(auto, using(ranges::proofs::UpTo::up_goes, ranges::proofs::UpTo::up_done), unfolding(crate::specs::Tests::senders_test))]
+#[tactic(auto, unfolding(crate::specs::Tests::senders_test))]
 pub fn senders_fit(
     policy: Policy,
     sizes: [u64; 16],
@@ -145,8 +145,8 @@ pub fn senders_fit(
     requires { (n ≤ 16) × AtMost 16777216 n sizes × AtMost 2048 16 counts }
     ensures { result ≡ senders_test policy (λ i. get_or sizes i 0) clock (λ i. get_or counts i 0) n senders togglers meters }
 {
-    for i in 0..n as usize {
-        if !sender_fit(
+    (0..n as usize).all(|i| {
+        sender_fit(
             policy,
             sizes[i],
             clock,
@@ -154,9 +154,6 @@ pub fn senders_fit(
             togglers[i],
             meters[i],
             counts[i],
-        ) {
-            return false;
-        }
-    }
-    true
+        )
+    })
 }

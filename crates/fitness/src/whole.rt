@@ -14,31 +14,37 @@ pub fn is_fit(simulation: Simulation) -> bool
     ensures { result ≡ fit simulation }
 {
     let network = simulation.network;
-    let head = simulation.head;
     let lines = simulation.lines;
-    if !frame_fit(network, head, lines) {
+    if !frame_fit(network, simulation.head, lines) {
         return false;
     }
     let n = network.senders;
     let count = line_count(network.back);
-    let clock = head.clock;
+    let clock = simulation.head.clock;
     let waiting = simulation.waiting;
     let on_line = simulation.on_line;
     let senders = simulation.senders;
-    let sizes = network.bits;
-    if !packets_fit(senders, sizes, n, clock, waiting, on_line, lines, count) {
+    if !packets_fit(
+        senders,
+        network.bits,
+        n,
+        clock,
+        waiting,
+        on_line,
+        lines,
+        count,
+    ) {
         return false;
     }
-    let togglers = simulation.togglers;
     let found = under_way(waiting, on_line, lines, clock, count);
     senders_fit(
         network.policy,
-        sizes,
+        network.bits,
         clock,
         found.counts,
         n,
         senders,
-        togglers,
+        simulation.togglers,
         simulation.meters,
     ) && queue_fit(
         n,
@@ -46,8 +52,8 @@ pub fn is_fit(simulation: Simulation) -> bool
         found.links,
         clock,
         senders,
-        togglers,
+        simulation.togglers,
         simulation.queue,
-        head.next,
+        simulation.head.next,
     )
 }

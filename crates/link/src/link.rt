@@ -170,7 +170,7 @@ fn is_due(line: Line, clock: Time, front: Transit) -> bool
 }
 
 // Whether the line is free, and a packet waits.
-#[tactic(auto, using(crate::proofs::Limits::no_later), unfolding(crate::specs::Link::is_free))]
+#[tactic(auto, using(quantities::proofs::Comparisons::no_later), unfolding(crate::specs::Link::is_free))]
 fn is_free(line: Line, clock: Time) -> bool
     ensures { result ≡ is_free line clock }
 {

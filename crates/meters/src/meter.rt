@@ -147,7 +147,7 @@ impl AverageFlowMeter {
     }
 
     // Whether the meter is fit, and the time is in its range and not before the meter's start.
-    #[tactic(auto, unfolding(crate::specs::Meter::ready))]
+    #[tactic(auto, using(quantities::proofs::Comparisons::no_later), unfolding(crate::specs::Meter::ready))]
     fn ready(self, time: Time) -> bool
         ensures { result ≡ ready self time }
     {
@@ -156,7 +156,7 @@ impl AverageFlowMeter {
         }
         match self.current_start {
             None => true,
-            Some(begin) => begin.0.0 <= time.0.0,
+            Some(begin) => begin <= time,
         }
     }
 

@@ -16,7 +16,8 @@ use sender::{LossySender, Policy, SenderState};
 use toggler::{Toggler, create};
 
 // The senders and togglers of a build, the root after them, and the number: 8 where a first toggle's
-// draw was spent, with those made so far.
+// draw was spent, with those made so far. Two arrays and no array of pairs: the specs cite each array,
+// and a tick stores only the element that changed.
 #[derive(Clone, Copy)]
 pub struct Made {
     pub number: u32,

@@ -1,4 +1,5 @@
 -- Laws of doubles and of tests, for the crates above.
+pub mod Comparisons
 pub mod Nan
 pub mod Order
 pub mod Ranges

@@ -83,7 +83,7 @@ pub fn part_count(senders: u32, back: Option<LineValues>) -> usize
 }
 
 // A time made anew from its parts: the machine code then copies no bytes between them (docs/BENCHMARKS.md,
-// "Values made anew"). `time` as it is, a copy of the enum, is slower.
+// "Values made anew"). `time` as it is, a copy of the Option, is slower.
 pub fn time_anew(time: Option<Time>) -> Option<Time>
     ensures { result ≡ time }
 {
@@ -103,7 +103,7 @@ fn queued_anew(old: Queued) -> Queued
 }
 
 // What the place of a link in the queue holds, and of a sender: anew where something changed, else what
-// it held.
+// it held. Two functions, since each cites its definition of queueing/specs.
 pub fn link_slot(changed: bool, line: Line, clock: Time, front: Transit, old: Queued) -> Queued
     ensures { result ≡ link_slot changed line clock front old }
 {

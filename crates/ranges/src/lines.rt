@@ -4,7 +4,8 @@ ghost use Rattle.ranges.specs.Frame.{values_at};
 
 use link::LineValues;
 
-// Whether there is a return line.
+// Whether there is a return line. No bare `is_some` at its places: `has_back` of remy/specs/State is cited
+// by name.
 pub fn has_back(back: Option<LineValues>) -> bool
     ensures { result ≡ has_back back }
 {

@@ -2,7 +2,8 @@
 // also says demand 3, the account of packets, for every state that calls reach from a build; which
 // numbers it can give; that the clock cannot go back, in any state that calls reach from the one given;
 // and that runs join: wherever the state given is what m ticks of another gave, n ticks of it end as
-// m + n of the other do.
+// m + n of the other do. `TickNumber`, `NeverBack` and `JoinsOn` are public promises, so each stands at its
+// function.
 #![tactic(auto)]
 
 ghost use Rattle.std.specs.Prelude.{◌≡◌};

@@ -2,6 +2,9 @@
 // that a turn needs, calls these, and stores what they give. Each is a piece of the tick definition.
 //
 // All functions here are helpers for the crate `advance`, and no entry points.
+//
+// A state made by hand holds any ring and any index, so those that read them ask for `start < 512` or
+// `i < 16`, and no invariant of a type has it.
 #![tactic(auto)]
 
 ghost use Rattle.std.specs.Prelude.{◌≡◌, ◌+◌, ◌*◌, ◌%◌, ◌≤◌, ◌<◌, ◌^◌};
@@ -19,7 +22,8 @@ use ranges::lines::{has_back, values_of};
 use remy::{Mark, Noted, RemyNetwork, TickRecord};
 use sender::{Enabled, Heard, LossySender, Policy, SenderState};
 
-// The values of a line that its link's turn reads: its delay, rate and loss.
+// The values of a line that its link's turn reads: its delay, rate and loss. No `LineValues`: the limit is
+// left out for speed (docs/DECISIONS.md).
 #[derive(Clone, Copy)]
 pub struct LinkValues {
     pub delay: f64,
@@ -38,7 +42,8 @@ pub struct LinkActed {
     pub line: Line,
 }
 
-// What came of the packet that left: whether a sender heard of it, the mark, the sender, its meter.
+// What came of the packet that left: whether a sender heard of it, the mark, the sender, its meter. No
+// Option of the sender: `heard_by` has the flag and the sender.
 #[derive(Clone, Copy)]
 pub struct Hearing {
     pub heard: bool,
@@ -207,7 +212,7 @@ fn lost_mark(l: usize) -> Mark
 }
 
 // The packet that left line l comes to its sender, if it was not lost; a counted one goes into the
-// meter, with the bits of the sender's packets.
+// meter, with the bits of the sender's packets. Seven parameters, as `heard_by` has them.
 #[tactic(auto, unfolding(crate::specs::Turns::heard_by))]
 pub fn hear(
     policy: Policy,

@@ -59,7 +59,7 @@ fit-known : (p : Joined-steady) → p.if-steady.fit ≡ fit p.loop-done.st
 fit-known p =
     let l = p.loop-done in
     elim p.if-steady.branch [
-      | then-steady w ↦ w.fit-is ∙ sym (steady-fit l.st ((due-at p.before).keeps w.if-steady.true).test)
+      | then-steady w ↦ w.fit-is ∙ w.if-steady.true ∙ sym (steady-fit l.st ((due-at p.before).keeps w.if-steady.true).test)
       | else-steady w ↦ w.fit-is ∙ w.is_fit-fit.ensures
     ]
 

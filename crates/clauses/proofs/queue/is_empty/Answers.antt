@@ -1,20 +1,19 @@
--- A place where something is queued fails the test of all. Assumes nothing.
-use Rattle.std.proofs.Common.{◌≡◌, false, not, rules}
+-- `all` tests the places of the queue. Assumes nothing.
+use Rattle.std.proofs.Common.{rules, ℕ}
+use Rattle.std.proofs.lemmas.Iterator.{cases_from_all, YieldsList-from_range}
+use mathlib.Core.Path.{◌≡◌, refl}
+use mathlib.Core.Bool.{Bool, true, false, not}
+use native.Mathlib.Omega.{arith}
 use lib.ListN.{get_or}
 use Rattle.meters.specs.Meter.{is_on}
 use Rattle.toggler.specs.Queue.{no_queued}
-use Rattle.ranges.proofs.UpTo.{up_stops, up_done}
 use Rattle.clauses.specs.Tests.{empty_test}
+use Rattle.ranges.proofs.UpTo.{up_to-all}
 use Rattle.clauses.proofs.queue.is_empty.Goals as goal
-
-pub returns-then-is_some : goal.returns-then-is_some
-unfolding empty_test
-returns-then-is_some c =
-    let q = c.args.queue in
-    let k = c.loop-k.k in
-    let fails : not (is_on (get_or q k no_queued).time) ≡ false = search rules in
-    up_stops (λ j. not (is_on (get_or q j no_queued).time)) 35 k c.loop-k-test.true fails
 
 pub returns : goal.returns
 unfolding empty_test
-returns c = up_done _ 35 c.loop-k.k c.loop-k.invariant c.loop-k.auto.k-end c.loop-k-test.false
+returns c =
+    let fit : ℕ → Bool = λ k. not (is_on (get_or c.args.queue k no_queued).time) in
+    up_to-all fit 35 _ (cases_from_all _ _ _ (λ k. fit k ≡ true) (λ k. fit k ≡ false) c.all.ensures.ran
+    (YieldsList-from_range 0 35 35 refl (omega arith)) (λ x q k. search rules) (λ x q k. search rules))

@@ -1,6 +1,7 @@
 -- The literals are opened. Assumes nothing.
 use Rattle.std.proofs.Common.{rules}
 use lib.Ieee.{of_bits}
+use Rattle.quantities.proofs.Comparisons.{no_later}
 use Rattle.meters.specs.Meter.{ready}
 use Rattle.meters.proofs.meter.AverageFlowMeter.ready.Goals as goal
 
@@ -14,4 +15,4 @@ returns-in-None c = search rules
 
 pub returns-in-Some : goal.returns-in-Some
 unfolding ready of_bits
-returns-in-Some c = search rules
+returns-in-Some c = search (rules, no_later)
