@@ -12,7 +12,6 @@ use Rattle.link.specs.declared.packet.Transit.{Transit}
 use Rattle.quantities.specs.declared.information.Information.{Information}
 use Rattle.quantities.specs.Units.{span_of, rate_of, amount_of}
 use Rattle.meters.specs.declared.meter.AverageFlowMeter.{AverageFlowMeter}
-use Rattle.meters.specs.declared.meter.Metered.{Metered}
 use Rattle.meters.specs.Meter.{switched_of}
 use Rattle.link.specs.declared.packet.Packet.{Packet}
 use Rattle.link.specs.declared.link.Line.{Line}
@@ -335,8 +334,8 @@ toggler_with_lem s i t z = rw (eq-eqb _ _ z) (by t.toggler.enabled refl)
 
 pub toggler_moves : (s : Simulation) (i : ℕ) (t : Toggled) → t ≡ toggle_of (toggler_at s i) s.head.clock s.network.on s.network.off → t.number ≡ 0
     → (x : LossySender) → x ≡ switched_to s.network.policy t.toggler.enabled (sender_at s i) s.head.clock
-    → (m : Metered) → m ≡ switched_of (meter_at s i) t.toggler.enabled s.head.clock
-    → outcome_of s (toggler i) ≡ moves (toggler_note s.head.clock i t.toggler.enabled) (picked (toggler_state s i t.toggler x m.meter))
+    → (m : AverageFlowMeter) → m ≡ (switched_of (meter_at s i) t.toggler.enabled s.head.clock).meter
+    → outcome_of s (toggler i) ≡ moves (toggler_note s.head.clock i t.toggler.enabled) (picked (toggler_state s i t.toggler x m))
 unfolding outcome_of acts_of toggler_acts
 toggler_moves s i t e z x f m g =
     rw (f, g) (ap (λ (y : Toggled). outcome_with (toggler i) (toggler_with s i y)) (sym e) ∙ toggler_with_lem s i t z)

@@ -14,7 +14,7 @@ use Rattle.quantities.specs.declared.time.Time.{Time}
 use Rattle.quantities.specs.declared.time_span.TimeSpan.{TimeSpan}
 use Rattle.quantities.specs.declared.information_rate.InformationRate.{InformationRate}
 use Rattle.quantities.specs.Units.{span_of, rate_of, amount_of}
-use Rattle.meters.specs.declared.meter.Metered.{Metered}
+use Rattle.meters.specs.declared.meter.AverageFlowMeter.{AverageFlowMeter}
 use Rattle.meters.specs.Meter.{switched_of}
 use Rattle.link.specs.declared.packet.Packet.{Packet}
 use Rattle.link.specs.declared.packet.Waiting.{Waiting}
@@ -306,7 +306,7 @@ module _ (s : Simulation) (full : Full s) (i : ℕ) (t : Turn s (sender i) i) (a
 
 module _ (s : Simulation) (full : Full s) (i : ℕ) (t : Turn s (toggler i) i) (g : Toggled) (eg : g ≡ toggle_of (toggler_at s i) s.head.clock s.network.on s.network.off) (y : g.number ≡ 0)
     (o : LossySender) (eo : o ≡ switched_to s.network.policy g.toggler.enabled (sender_at s i) s.head.clock)
-    (m : Metered) (em : m ≡ switched_of (meter_at s i) g.toggler.enabled s.head.clock) where
+    (m : AverageFlowMeter) (em : m ≡ (switched_of (meter_at s i) g.toggler.enabled s.head.clock).meter) where
   pub toggler_stored : (q2 : Queued) → q2 ≡ toggler_slot g.toggler
       → (q1 : Queued) → q1 ≡ sender_slot true o s.head.clock (get_or (set s.queue (2 + 2 * i) q2) (1 + 2 * i) no_queued)
       → (note : TickRecord) → note ≡ toggler_note s.head.clock i g.toggler.enabled
@@ -319,7 +319,7 @@ module _ (s : Simulation) (full : Full s) (i : ℕ) (t : Turn s (toggler i) i) (
         on_line = s.on_line;
         senders = set s.senders i o;
         togglers = set s.togglers i g.toggler;
-        meters = set s.meters i m.meter;
+        meters = set s.meters i m;
         queue = set (set s.queue (2 + 2 * i) q2) (1 + 2 * i) q1;
       })))
   toggler_stored q2 e2 q1 e1 note en =

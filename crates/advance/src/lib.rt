@@ -217,10 +217,10 @@ pub fn advance(simulation: Simulation, n: u32) -> Recorded
                             st.senders[i],
                             clock,
                         );
-                        let switching = lent::switch_lending(st.meters[i], toggled.enabled, clock);
+                        let metered = turns::metered(st.meters[i], toggled.enabled, clock);
                         st.togglers[i] = toggled;
                         st.senders[i] = switched;
-                        st.meters[i] = switching.meter;
+                        st.meters[i] = metered;
                         let toggler_place = 2 + 2 * i;
                         st.queue[toggler_place] = queueing::toggler_slot(toggled);
                         let place = 1 + 2 * i;

@@ -4,45 +4,41 @@
 #![tactic(auto)]
 
 ghost use Rattle.std.specs.Prelude.{◌≡◌};
-ghost use Rattle.meters.specs.declared.meter.Metered.{Metered};
+ghost use Rattle.meters.specs.Meter.{Metered, told_change, number_of};
 
-use meters::{AverageFlowMeter, Metered};
+use meters::{AverageFlowMeter, ChangeRefused};
 
-// Changes a lent meter as the method does that takes it by value, and answers the method's number.
+// Changes a lent meter as the method does that takes it by value. Where the method refuses, the meter is as it was.
 //
 // A law, and no entry point: the caller shows that the method may be called.
-pub fn thin<P, Q, F: FnOnce(AverageFlowMeter, P, Q) -> Metered>(
+pub fn thin<P, Q, F: FnOnce(AverageFlowMeter, P, Q) -> Result<AverageFlowMeter, ChangeRefused>>(
     meter: &mut AverageFlowMeter,
     x: P,
     y: Q,
     method: F,
-) -> u32
+) -> Result<(), ChangeRefused>
     requires { F.pre method meter.old x y }
-    ensures answered { (answer : _) × F.post method meter.old x y answer × (result ≡ answer.number) × (meter.new ≡ answer.meter) }
-    ensures defined { (told : Metered) → ((answer : _) → F.post method meter.old x y answer → answer ≡ told) → (result ≡ told.number) × (meter.new ≡ told.meter) }
+    ensures answered { (answer : _) × F.post method meter.old x y answer × (number_of result ≡ number_of answer) × (meter.new ≡ (told_change meter.old answer).meter) }
+    ensures defined { (told : Metered) → ((answer : _) → F.post method meter.old x y answer → told_change meter.old answer ≡ told) → (number_of result ≡ told.number) × (meter.new ≡ told.meter) }
 {
-    let answer = method(*meter, x, y);
-    *meter = answer.meter;
-    answer.number
+    *meter = method(*meter, x, y)?;
+    Ok(())
 }
 
-// Lends a local that holds the meter, and answers the number with the meter that the form leaves there.
+// Lends a local that holds the meter, and gives the form's answer with the meter that the form leaves there.
 //
 // A law, and no entry point: the caller shows that the form may be called.
-pub fn lending<P, Q, F: FnOnce(&mut AverageFlowMeter, P, Q) -> u32>(
+pub fn lending<P, Q, F: FnOnce(&mut AverageFlowMeter, P, Q) -> Result<(), ChangeRefused>>(
     meter: AverageFlowMeter,
     x: P,
     y: Q,
     form: F,
-) -> Metered
+) -> (Result<(), ChangeRefused>, AverageFlowMeter)
     requires { F.IsAlwaysCallable form }
-    ensures lent { (before : _) × (after : _) × (before.now ≡ meter) × F.post form before x y result.number after × (after.now ≡ result.meter) }
-    ensures defined { (told : Metered) → ((before after : _) (number : _) → before.now ≡ meter → F.post form before x y number after → (number ≡ told.number) × (after.now ≡ told.meter)) → result ≡ told }
+    ensures lent { (before : _) × (after : _) × (before.now ≡ meter) × F.post form before x y result.0 after × (after.now ≡ result.1) }
+    ensures defined { (told : Metered) → ((before after : _) (answer : _) → before.now ≡ meter → F.post form before x y answer after → (number_of answer ≡ told.number) × (after.now ≡ told.meter)) → (number_of result.0 ≡ told.number) × (result.1 ≡ told.meter) }
 {
     let mut lent = meter;
-    let number = form(&mut lent, x, y);
-    Metered {
-        number,
-        meter: lent,
-    }
+    let answer = form(&mut lent, x, y);
+    (answer, lent)
 }

@@ -4,19 +4,18 @@
 
 ghost use Rattle.std.specs.Prelude.{◌≡◌};
 ghost use Rattle.flows.specs.Average.{average_of, told_mean};
-ghost use Rattle.meters.specs.Meter.{switched_of, received_of};
+ghost use Rattle.meters.specs.Meter.{switched_of, received_of, told_change, number_of};
 
 use flows::{FlowProperties, FlowSum, NoMean};
 use lending::{lending, thin};
-use meters::{AverageFlowMeter, Metered, Reception};
+use meters::{AverageFlowMeter, ChangeRefused, Reception};
 use quantities::Time;
 
-// The meter's two changes over a lent meter. Each answers the number; the meter is changed at 0,
-// else as it was.
+// The meter's two changes over a lent meter. Where one is refused (18), the meter is as it was.
 
 // Switches the meter on or off at a time.
-pub fn switch_lent(meter: &mut AverageFlowMeter, on: bool, time: Time) -> u32
-    ensures { (result ≡ (switched_of meter.old on time).number) × (meter.new ≡ (switched_of meter.old on time).meter) }
+pub fn switch_lent(meter: &mut AverageFlowMeter, on: bool, time: Time) -> Result<(), ChangeRefused>
+    ensures { (number_of result ≡ (switched_of meter.old on time).number) × (meter.new ≡ (switched_of meter.old on time).meter) }
 {
     thin(
         meter,
@@ -27,8 +26,12 @@ pub fn switch_lent(meter: &mut AverageFlowMeter, on: bool, time: Time) -> u32
 }
 
 // Counts a packet at a time.
-pub fn record_lent(meter: &mut AverageFlowMeter, packet: Reception, time: Time) -> u32
-    ensures { (result ≡ (received_of meter.old packet time).number) × (meter.new ≡ (received_of meter.old packet time).meter) }
+pub fn record_lent(
+    meter: &mut AverageFlowMeter,
+    packet: Reception,
+    time: Time,
+) -> Result<(), ChangeRefused>
+    ensures { (number_of result ≡ (received_of meter.old packet time).number) × (meter.new ≡ (received_of meter.old packet time).meter) }
 {
     thin(
         meter,
@@ -39,26 +42,40 @@ pub fn record_lent(meter: &mut AverageFlowMeter, packet: Reception, time: Time) 
 }
 
 // The same changes of a meter by value, which is lent.
-pub fn switch_lending(meter: AverageFlowMeter, on: bool, time: Time) -> Metered
-    ensures { result ≡ switched_of meter on time }
+#[tactic(auto, using(meters::proofs::Refusals::switch_refused))]
+pub fn switch_lending(
+    meter: AverageFlowMeter,
+    on: bool,
+    time: Time,
+) -> Result<AverageFlowMeter, ChangeRefused>
+    ensures { told_change meter result ≡ switched_of meter on time }
 {
-    lending(
+    let (answer, after) = lending(
         meter,
         on,
         time,
         |m: &mut AverageFlowMeter, on: bool, time: Time| { switch_lent(m, on, time) },
-    )
+    );
+    answer?;
+    Ok(after)
 }
 
-pub fn record_lending(meter: AverageFlowMeter, packet: Reception, time: Time) -> Metered
-    ensures { result ≡ received_of meter packet time }
+#[tactic(auto, using(meters::proofs::Refusals::record_refused))]
+pub fn record_lending(
+    meter: AverageFlowMeter,
+    packet: Reception,
+    time: Time,
+) -> Result<AverageFlowMeter, ChangeRefused>
+    ensures { told_change meter result ≡ received_of meter packet time }
 {
-    lending(
+    let (answer, after) = lending(
         meter,
         packet,
         time,
         |m: &mut AverageFlowMeter, packet: Reception, time: Time| { record_lent(m, packet, time) },
-    )
+    );
+    answer?;
+    Ok(after)
 }
 
 // The mean of a lent list of flow records.

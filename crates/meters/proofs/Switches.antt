@@ -5,8 +5,7 @@ use mathlib.Core.Bool.{Bool, true, false, not, ◌&&◌, beq, cond}
 use lib.Ieee.{le}
 use Rattle.quantities.specs.declared.time.Time.{Time}
 use Rattle.meters.specs.declared.meter.AverageFlowMeter.{AverageFlowMeter}
-use Rattle.meters.specs.declared.meter.Metered.{Metered}
-use Rattle.meters.specs.Meter.{not_before, within_limits, ready, taken, unchanged, is_on, turned, switched_of}
+use Rattle.meters.specs.Meter.{Metered, not_before, within_limits, ready, taken, unchanged, is_on, turned, switched_of}
 use Rattle.meters.specs.Switches.{Timer, timer_enable, timer_disable, answered, SwitchedOn, SwitchedOff}
 
 module _ (m : AverageFlowMeter) (t : Time) where

@@ -9,7 +9,7 @@ use Rattle.quantities.specs.declared.information.Information.{Information}
 use Rattle.quantities.specs.Doubles.{zero_f, power, largest, in_range}
 use Rattle.quantities.specs.Units.{span_of, amount_of, as_double, since, span_sum, amount_over_span}
 use Rattle.meters.specs.declared.meter.AverageFlowMeter.{AverageFlowMeter}
-use Rattle.meters.specs.declared.meter.Metered.{Metered}
+use Rattle.meters.specs.declared.meter.ChangeRefused.{ChangeRefused}
 use Rattle.meters.specs.declared.meter.Reception.{Reception}
 use Rattle.flows.specs.declared.flow.FlowProperties.{FlowProperties}
 use Rattle.meters.specs.declared.meter.FlowReadError.{FlowReadError}
@@ -61,12 +61,27 @@ ready m t = within_limits m t && not_before m.current_start t
 
 -- ---- the calls
 
+-- what a call gives in document 01's terms: a number (0 or 18), and the meter, changed at 0, else as it was
+pub record Metered : Type 0 where
+  pub number : ℕ
+  pub meter : AverageFlowMeter
+
 -- a call that is taken, and one that is refused, which leaves the meter as it was
 abbrev pub taken : AverageFlowMeter → Metered
 taken m = record { number = 0; meter = m }
 
 abbrev pub unchanged : AverageFlowMeter → Metered
 unchanged m = record { number = 18; meter = m }
+
+-- the number and the meter of each case of a call's answer
+abbrev pub told_change : AverageFlowMeter → Result AverageFlowMeter ChangeRefused → Metered
+told_change m (Ok changed) = taken changed
+told_change m (Err e) = unchanged m
+
+-- the number of each case, where the meter is lent
+abbrev pub number_of : {A : Type 0} → Result A ChangeRefused → ℕ
+number_of (Ok done) = 0
+number_of (Err e) = 18
 
 abbrev pub is_on : Option Time → Bool
 is_on None = false

@@ -5,8 +5,7 @@ use Rattle.quantities.specs.declared.time.Time.{Time}
 use Rattle.quantities.specs.declared.time_span.TimeSpan.{TimeSpan}
 use Rattle.quantities.specs.Units.{since, span_sum}
 use Rattle.meters.specs.declared.meter.AverageFlowMeter.{AverageFlowMeter}
-use Rattle.meters.specs.declared.meter.Metered.{Metered}
-use Rattle.meters.specs.Meter.{within_limits, switched_of}
+use Rattle.meters.specs.Meter.{Metered, within_limits, switched_of}
 
 -- ---- `Timer`, which both switches reach through `InfoRateMeter` and which alone they read and change
 pub record Timer : Type 0 where

@@ -4,4 +4,4 @@
 
 pub mod meter;
 
-pub use meter::{AverageFlowMeter, FlowReadError, Metered, Reception};
+pub use meter::{AverageFlowMeter, ChangeRefused, FlowReadError, Reception};

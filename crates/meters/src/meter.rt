@@ -1,5 +1,5 @@
 ghost use Rattle.std.specs.Prelude.{◌≡◌};
-ghost use Rattle.meters.specs.Meter.{new_meter, start_fit, meter_fit, ready, enabled_time, switched_of, received_of, unchanged, read_of, told_read};
+ghost use Rattle.meters.specs.Meter.{new_meter, start_fit, meter_fit, ready, enabled_time, switched_of, received_of, told_change, read_of, told_read};
 
 use flows::FlowProperties;
 use flows::sums::{average_rtt, summed};
@@ -25,12 +25,9 @@ pub struct Reception {
     pub rtt: TimeSpan,
 }
 
-// A number of document 01 (0 or 18), and the meter: changed at 0, else as it was.
-#[derive(Clone, Copy)]
-pub struct Metered {
-    pub number: u32,
-    pub meter: AverageFlowMeter,
-}
+// A change that the meter refuses (18), and is as it was.
+#[derive(Clone, Copy, PartialEq, Eq)]
+pub struct ChangeRefused;
 
 // Why a flow is not read.
 #[derive(Clone, Copy, PartialEq, Eq)]
@@ -58,62 +55,47 @@ impl AverageFlowMeter {
     // Switches the meter on or off at a time; 18 where it has the state asked for. What it gives is what the
     // Rust's `set_enabled` and `set_disabled` give (specs/Switches).
     #[tactic(auto, unfolding(crate::specs::Meter::switched_of))]
-    pub fn switch(self, on: bool, time: Time) -> Metered
-        ensures { result ≡ switched_of self on time }
+    pub fn switch(self, on: bool, time: Time) -> Result<AverageFlowMeter, ChangeRefused>
+        ensures { told_change self result ≡ switched_of self on time }
     {
         if !self.ready(time) {
-            return self.refused();
+            return Err(ChangeRefused);
         }
         match (self.current_start, on) {
-            (None, true) => Metered {
-                number: 0,
-                meter: AverageFlowMeter {
-                    current_start: Some(time),
-                    ..self
-                },
-            },
-            (Some(begin), false) => Metered {
-                number: 0,
-                meter: AverageFlowMeter {
-                    total_time: self.total_time + (time - begin),
-                    current_start: None,
-                    ..self
-                },
-            },
-            _ => self.refused(),
+            (None, true) => Ok(AverageFlowMeter {
+                current_start: Some(time),
+                ..self
+            }),
+            (Some(begin), false) => Ok(AverageFlowMeter {
+                total_time: self.total_time + (time - begin),
+                current_start: None,
+                ..self
+            }),
+            _ => Err(ChangeRefused),
         }
     }
 
     // Counts a packet at a time.
-    pub fn packet_received(self, packet: Reception, time: Time) -> Metered
-        ensures { result ≡ received_of self packet time }
+    pub fn packet_received(
+        self,
+        packet: Reception,
+        time: Time,
+    ) -> Result<AverageFlowMeter, ChangeRefused>
+        ensures { told_change self result ≡ received_of self packet time }
     {
         if !self.ready(time) || !in_range(0.0, 2199023255552.0, packet.rtt.0) {
-            return self.refused();
+            return Err(ChangeRefused);
         }
         let bits = packet.data.0;
         if bits < 1 || bits > 16777216 || self.records >= 16777216 {
-            return self.refused();
+            return Err(ChangeRefused);
         }
-        Metered {
-            number: 0,
-            meter: AverageFlowMeter {
-                total: self.total + packet.data,
-                records: self.records + 1,
-                rtt_sum: TimeSpan(summed(self.records, self.rtt_sum.0, packet.rtt.0)),
-                ..self
-            },
-        }
-    }
-
-    // The meter as it was, with 18.
-    fn refused(self) -> Metered
-        ensures { result ≡ unchanged self }
-    {
-        Metered {
-            number: 18,
-            meter: self,
-        }
+        Ok(AverageFlowMeter {
+            total: self.total + packet.data,
+            records: self.records + 1,
+            rtt_sum: TimeSpan(summed(self.records, self.rtt_sum.0, packet.rtt.0)),
+            ..self
+        })
     }
 
     // The flow so far, read at a time.

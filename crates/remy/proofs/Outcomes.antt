@@ -13,8 +13,7 @@ use Rattle.quantities.specs.declared.time.Time.{Time}
 use Rattle.quantities.specs.Doubles.{power}
 use Rattle.quantities.specs.Units.{span_of, rate_of, since}
 use Rattle.draws.specs.Draws.{unit_of}
-use Rattle.meters.specs.declared.meter.Metered.{Metered}
-use Rattle.meters.specs.Meter.{recorded_of}
+use Rattle.meters.specs.Meter.{Metered, recorded_of}
 use Rattle.link.specs.declared.packet.Packet.{Packet}
 use Rattle.link.specs.declared.packet.Transit.{Transit}
 use Rattle.link.specs.declared.link.Line.{Line}

@@ -12,8 +12,7 @@ use lib.Ieee.{le, eq}
 use Rattle.quantities.specs.declared.time.Time.{Time}
 use Rattle.quantities.specs.Units.{span_of, rate_of, amount_over_rate, span_after}
 use Rattle.meters.specs.declared.meter.AverageFlowMeter.{AverageFlowMeter}
-use Rattle.meters.specs.declared.meter.Metered.{Metered}
-use Rattle.meters.specs.Meter.{ready, is_on, taken, unchanged, turned, switched_of}
+use Rattle.meters.specs.Meter.{Metered, ready, is_on, taken, unchanged, turned, switched_of}
 use Rattle.link.specs.declared.packet.Packet.{Packet}
 use Rattle.link.specs.declared.packet.Waiting.{Waiting}
 use Rattle.link.specs.declared.packet.Transit.{Transit}

@@ -14,9 +14,8 @@ use Rattle.quantities.specs.Doubles.{zero_f, power, in_range}
 use Rattle.quantities.specs.Units.{amount_of}
 use Rattle.quantities.proofs.Ranges.{Within, within_wider, test→within, limit, sum_within}
 use Rattle.meters.specs.declared.meter.AverageFlowMeter.{AverageFlowMeter}
-use Rattle.meters.specs.declared.meter.Metered.{Metered}
 use Rattle.flows.specs.Sums.{summed_of}
-use Rattle.meters.specs.Meter.{is_on, ready, taken, unchanged, turned, counted_of, switched_of, recorded_of}
+use Rattle.meters.specs.Meter.{Metered, is_on, ready, taken, unchanged, turned, counted_of, switched_of, recorded_of}
 use Rattle.remy.proofs.Facts.{both_l, both_r, range_i}
 use Rattle.remy.proofs.Steps.{cond_elim}
 use Rattle.remy.proofs.Parts.{turned-records}

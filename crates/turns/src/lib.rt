@@ -8,12 +8,13 @@
 #![tactic(auto)]
 
 ghost use Rattle.std.specs.Prelude.{◌≡◌, ◌+◌, ◌*◌, ◌%◌, ◌≤◌, ◌<◌, ◌^◌};
+ghost use Rattle.meters.specs.Meter.{switched_of};
 ghost use Rattle.remy.specs.State.{values_of};
 ghost use Rattle.remy.specs.Tick.{empty_record, begun_name, lost_mark};
 ghost use Rattle.remy.specs.Run.{batch, noted_with};
 ghost use Rattle.turns.specs.Turns.{left_name, owner_of, link_values, link_acted, on_line_at, passed_on, heard_by, link_note, sender_acted, arrival_mark, arrived_at, waiting_at, sender_note, switched_to, toggler_note};
 
-use lent::record_lending;
+use lent::{record_lending, switch_lending};
 use link::{Left, Line, Packet, Transit, Waiting};
 use meters::{AverageFlowMeter, Reception};
 use quantities::{Information, InformationRate, Time, TimeSpan};
@@ -246,8 +247,8 @@ pub fn hear(
                 data: Information(bits),
                 rtt: clock - p.sent_time,
             };
-            let m = record_lending(meter, reception, clock);
-            (Mark::Counted, meter_anew(m.meter))
+            let counted = record_lending(meter, reception, clock).unwrap_or(meter);
+            (Mark::Counted, meter_anew(counted))
         }
     };
     Hearing {
@@ -416,6 +417,13 @@ pub fn switched(policy: Policy, on: bool, sender: LossySender, clock: Time) -> L
     } else {
         sender.disable()
     }
+}
+
+// The meter of a sender that its toggler switches.
+pub fn metered(meter: AverageFlowMeter, on: bool, clock: Time) -> AverageFlowMeter
+    ensures { result ≡ (switched_of meter on clock).meter }
+{
+    switch_lending(meter, on, clock).unwrap_or(meter)
 }
 
 // The record of a toggler's turn.

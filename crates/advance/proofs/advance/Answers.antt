@@ -710,10 +710,10 @@ toggler_note-note-requires c = (toggler-known (goal.at.toggler_note-note-require
 pub loop-done-preserved : goal.loop-done-preserved
 loop-done-preserved c =
     moved (goal.at.loop-done-preserved c).After-whose_turn-now _ _
-    (toggler_stored (now_at (goal.at.loop-done-preserved c).After-whose_turn-now) (full_at (goal.at.loop-done-preserved c).After-whose_turn-now) _ (toggler-known (goal.at.loop-done-preserved c).In-Toggler) c.toggle-toggle.result c.toggle-toggle.ensures c.if-toggle-ne0.false c.switched-switched.result c.switched-switched.ensures c.switch_lending-switching.result c.switch_lending-switching.ensures
+    (toggler_stored (now_at (goal.at.loop-done-preserved c).After-whose_turn-now) (full_at (goal.at.loop-done-preserved c).After-whose_turn-now) _ (toggler-known (goal.at.loop-done-preserved c).In-Toggler) c.toggle-toggle.result c.toggle-toggle.ensures c.if-toggle-ne0.false c.switched-switched.result c.switched-switched.ensures c.metered-metered.result c.metered-metered.ensures
     c.toggler_slot.result c.toggler_slot.ensures c.sender_slot-in-Toggler.result c.sender_slot-in-Toggler.ensures c.toggler_note-note.result c.toggler_note-note.ensures)
     refl (senders_few (now_at (goal.at.loop-done-preserved c).After-whose_turn-now) (toggler-known (goal.at.loop-done-preserved c).In-Toggler).fits)
-    (toggler_none (now_at (goal.at.loop-done-preserved c).After-whose_turn-now) (full_at (goal.at.loop-done-preserved c).After-whose_turn-now) _ (toggler-known (goal.at.loop-done-preserved c).In-Toggler) c.toggle-toggle.result c.toggle-toggle.ensures c.if-toggle-ne0.false c.switched-switched.result c.switched-switched.ensures c.switch_lending-switching.result c.switch_lending-switching.ensures c.toggler_slot.result c.sender_slot-in-Toggler.result)
+    (toggler_none (now_at (goal.at.loop-done-preserved c).After-whose_turn-now) (full_at (goal.at.loop-done-preserved c).After-whose_turn-now) _ (toggler-known (goal.at.loop-done-preserved c).In-Toggler) c.toggle-toggle.result c.toggle-toggle.ensures c.if-toggle-ne0.false c.switched-switched.result c.switched-switched.ensures c.metered-metered.result c.metered-metered.ensures c.toggler_slot.result c.sender_slot-in-Toggler.result)
 
 pub returns-after-loop-done : goal.returns-after-loop-done
 returns-after-loop-done c = let l = c.loop-done in ends_kept _ _ _ _ _ _ _ l.st l.ripe l.invariant.1 c.loop-done-test.false
