@@ -1,7 +1,7 @@
 // What is printed of a meter and of a flow: each number by its bits, so that two answers are equal where
 // they are printed alike.
 use flows::{FlowProperties, NoMean, NoPacketsAcked};
-use meters::{FlowReadError, Metered};
+use meters::{AverageFlowMeter, ChangeRefused, FlowReadError};
 use quantities::float::to_bits;
 use quantities::{Time, TimeSpan};
 use std::fmt;
@@ -56,11 +56,18 @@ impl fmt::Display for FlowAnswer {
     }
 }
 
-impl From<Metered> for MeterAnswer {
-    fn from(answer: Metered) -> Self {
-        let meter = answer.meter;
+impl MeterAnswer {
+    // Of a change of a meter: where it is refused, the meter is as it was.
+    pub(crate) fn of(
+        before: AverageFlowMeter,
+        change: Result<AverageFlowMeter, ChangeRefused>,
+    ) -> Self {
+        let (number, meter) = match change {
+            Ok(changed) => (0, changed),
+            Err(ChangeRefused) => (18, before),
+        };
         MeterAnswer {
-            number: answer.number,
+            number,
             total_time: to_bits(meter.total_time.0),
             start: meter.current_start.into(),
             total: meter.total.0,

@@ -6,7 +6,7 @@ use crate::answer::{FlowAnswer, MeterAnswer};
 use crate::command::Command;
 use flows::{FlowProperties, FlowSum, NoMean, NoPacketsAcked};
 use lent::{average, record_lending, switch_lending};
-use meters::{AverageFlowMeter, Metered};
+use meters::{AverageFlowMeter, ChangeRefused};
 use quantities::InformationRate;
 use std::io;
 
@@ -86,13 +86,14 @@ impl Bench {
         &mut self,
         rt: &impl Print,
         letter: &str,
-        lent: Metered,
-        by_value: Metered,
+        lent: Result<AverageFlowMeter, ChangeRefused>,
+        by_value: Result<AverageFlowMeter, ChangeRefused>,
     ) -> io::Result<()> {
-        self.meter = lent.meter;
-        let answer = MeterAnswer::from(lent);
+        let before = self.meter;
+        self.meter = lent.unwrap_or(before);
+        let answer = MeterAnswer::of(before, lent);
         println!(rt; "{letter} {answer}")?;
-        compared(rt, answer == MeterAnswer::from(by_value))
+        compared(rt, answer == MeterAnswer::of(before, by_value))
     }
 
     fn mean(&self, rt: &impl Print) -> io::Result<()> {
