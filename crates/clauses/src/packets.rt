@@ -126,11 +126,10 @@ fn line_packets_fit(
     ) && on_line_fit(senders, n, clock, on_line, l, line.on_line)
 }
 
-// Whether the packets of the first so many lines are fit. A loop and no `all`, here and in `all_due_soon`,
-// so that no closure hands on a copy of the packets.
+// Whether the packets of the first so many lines are fit.
 //
 // A helper for `fitness`, and no entry point: `is_fit` has tested the network and the rings.
-#[tactic(auto, using(ranges::proofs::UpTo::up_goes, ranges::proofs::UpTo::up_stops, ranges::proofs::UpTo::up_done), unfolding(crate::specs::Tests::packets_test))]
+#[tactic(auto, unfolding(crate::specs::Tests::packets_test))]
 pub fn packets_fit(
     senders: [LossySender; 16],
     sizes: [u64; 16],
@@ -144,16 +143,11 @@ pub fn packets_fit(
     requires { (n ≤ 16) × AtMost 16777216 n sizes × (count ≤ 2) × AllInRings lines count }
     ensures { result ≡ packets_test senders sizes n clock waiting on_line lines count }
 {
-    for l in 0..count {
-        if !line_packets_fit(senders, sizes, n, clock, waiting, on_line, l, lines[l]) {
-            return false;
-        }
-    }
-    true
+    (0..count).all(|l| line_packets_fit(senders, sizes, n, clock, waiting, on_line, l, lines[l]))
 }
 
-// Whether no packet on line l is due later than a time. No `all`: a closure that reads packets by place
-// would copy all that there are at each call.
+// Whether no packet on line l is due later than a time. A loop and no `all`: the definition has `every`
+// of a ring's members, and the law of `all` is of numbers.
 #[tactic(auto, using(crate::proofs::Turns::members, quantities::proofs::Comparisons::no_later), unfolding(crate::specs::Tests::soon_on_test))]
 fn due_soon(on_line: [Transit; 1024], l: usize, ring: Ring, latest: Time) -> bool
     requires { (l < 2) × (ring.start < 512) × (ring.count ≤ 512) }
@@ -173,7 +167,7 @@ fn due_soon(on_line: [Transit; 1024], l: usize, ring: Ring, latest: Time) -> boo
 // so many lines.
 //
 // A helper for `fitness`, and no entry point: `is_fit` has tested the rings.
-#[tactic(auto, using(ranges::proofs::UpTo::up_goes, ranges::proofs::UpTo::up_stops, ranges::proofs::UpTo::up_done), unfolding(crate::specs::Tests::soon_test))]
+#[tactic(auto, unfolding(crate::specs::Tests::soon_test))]
 pub fn all_due_soon(
     first: LineValues,
     back: Option<LineValues>,
@@ -185,11 +179,8 @@ pub fn all_due_soon(
     requires { (count ≤ 2) × AllInRings lines count }
     ensures { result ≡ soon_test first back clock on_line lines count }
 {
-    for l in 0..count {
+    (0..count).all(|l| {
         let latest = clock + TimeSpan(values_of(first, back, l).delay);
-        if !due_soon(on_line, l, lines[l].on_line, latest) {
-            return false;
-        }
-    }
-    true
+        due_soon(on_line, l, lines[l].on_line, latest)
+    })
 }
