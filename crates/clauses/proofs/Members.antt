@@ -1,7 +1,7 @@
--- The tests of a packet and of what holds one by what decides them, and the loop over the lines. Assumes nothing.
+-- The tests of a packet and of what holds one by what decides them, and the loops over the lines and over the senders. Assumes nothing.
 use Rattle.std.proofs.Common.{Option}
 use Prim.Native.Nat.{ℕ, ◌+◌, ◌*◌, ◌<◌}
-use mathlib.Core.Path.{◌≡◌, ap, ◌∙◌}
+use mathlib.Core.Path.{◌≡◌, sym, ap, ◌∙◌}
 use mathlib.Core.Bool.{Bool, true, false, ◌&&◌}
 use mathlib.Core.List.{List}
 use native.Mathlib.Decide.{ℕ_discrete}
@@ -23,10 +23,10 @@ use Rattle.sender.specs.declared.lossy.LossySender.{LossySender}
 use Rattle.toggler.specs.declared.toggler.Toggler.{Toggler}
 use Rattle.toggler.specs.declared.tick_queue.Queued.{Queued}
 use Rattle.toggler.specs.Queue.{no_queued}
-use Rattle.remy.specs.State.{no_line}
+use Rattle.remy.specs.State.{no_line, no_sender, no_toggler, no_meter}
 use Rattle.remy.proofs.Facts.{both_l}
-use Rattle.ranges.proofs.UpTo.{up_same}
-use Rattle.clauses.specs.Tests.{packet_test, line_of, lines_of, Counts, Added, senders_test, LinkTimes}
+use Rattle.ranges.proofs.UpTo.{up_goes, up_stops, up_same}
+use Rattle.clauses.specs.Tests.{packet_test, line_of, lines_of, Counts, Added, sender_test, senders_test, LinkTimes}
 
 -- ---- packets
 
@@ -67,6 +67,18 @@ module _ (waiting : List Waiting) (on_line : List Transit) (lines : List Line) w
 -- ---- senders
 
 module _ (policy : Policy) (bits : ℕ → ℕ) (clock : Time) (under_way : ℕ → ℕ) (senders : List LossySender) (togglers : List Toggler) (meters : List AverageFlowMeter) where
+  -- the i-th sender passes or fails
+  module _ (i : ℕ) (r : Bool)
+      (er : r ≡ sender_test policy (bits i) clock (get_or senders i no_sender) (get_or togglers i no_toggler) (get_or meters i no_meter) (under_way i)) where
+    pub senders_goes : senders_test policy bits clock under_way i senders togglers meters ≡ true → r ≡ true
+        → senders_test policy bits clock under_way (i + 1) senders togglers meters ≡ true
+    unfolding senders_test
+    senders_goes e t = up_goes _ i e (sym er ∙ t)
+
+    pub senders-stops : (n : ℕ) → i < n → r ≡ false → false ≡ senders_test policy bits clock under_way n senders togglers meters
+    unfolding senders_test
+    senders-stops n h t = up_stops _ n i h (sym er ∙ t)
+
   -- equal counts of the n senders give the same test
   pub senders-same : (others : ℕ → ℕ) (n : ℕ) → ((i : ℕ) → i < n → under_way i ≡ others i)
       → senders_test policy bits clock under_way n senders togglers meters ≡ senders_test policy bits clock others n senders togglers meters

@@ -83,7 +83,9 @@ fn fill<T: Copy>(line: Line, ring: &mut [T], element: T) {
 }
 
 // The slot of the place k after a start in a ring.
-pub(crate) fn slot(start: usize, k: usize) -> usize {
+pub(crate) fn slot(start: usize, k: usize) -> usize
+    ensures { result < 512 }
+{
     if start < 512 && k < 512 {
         (start + k) % 512
     } else {

@@ -35,15 +35,14 @@ mod whole;
 
 use script::input::read_full;
 use script::lines::Lines;
+use sink::Tried;
 use states::States;
 use std::io;
 
 fn main(rt: HostRuntime) -> io::Result<()> {
     let mut text = buffer();
     let got = read_full(&mut rt.stdin(), &mut text)?;
-    // Where a write fails, the lines are incomplete.
-    let _ = run(&rt, &text[..got]);
-    Ok(())
+    run(&Tried(&rt), &text[..got])
 }
 
 fn buffer() -> [u8; 524288]

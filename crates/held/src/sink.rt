@@ -11,6 +11,27 @@ pub(crate) trait Sink {
     fn state(&mut self, st: &Simulation) -> io::Result<()>;
 }
 
+// Output whose lines are each tried, whatever came of those before: where a write fails, the lines are incomplete.
+#[derive(Clone, Copy)]
+pub(crate) struct Tried<P>(pub P);
+
+impl<P: Print> Print for Tried<P> {
+    fn print<D: fmt::Display + Drop>(&self, value: D) -> io::Result<()> {
+        let _ = self.0.print(value);
+        Ok(())
+    }
+
+    fn println<D: fmt::Display + Drop>(&self, value: D) -> io::Result<()> {
+        let _ = self.0.println(value);
+        Ok(())
+    }
+
+    fn write_all(&self, bytes: &[u8]) -> io::Result<()> {
+        let _ = self.0.write_all(bytes);
+        Ok(())
+    }
+}
+
 // Standard output.
 #[derive(Clone, Copy)]
 pub(crate) struct Shown<P>(pub P);

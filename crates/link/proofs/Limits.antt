@@ -1,7 +1,9 @@
 -- Tests of the link in terms of numbers. Assumes nothing.
-use mathlib.Core.Path.{◌≡◌, sym, subst}
-use mathlib.Core.Bool.{true}
-use Prim.Native.Nat.{◌≤◌}
+use mathlib.Core.Path.{◌≡◌, refl, sym, subst}
+use mathlib.Core.Bool.{Bool, true, false}
+use Prim.Native.Nat.{ℕ, ◌+◌, ◌-◌, ◌≤◌, ◌<◌}
+use native.Mathlib.Omega.{arith}
+use borrow.Author.Tests.{le-leb, lt-leb, leb-true, leb-false}
 use lib.Dec.{T, leb, leb→le}
 use lib.Ieee.{le, eq}
 use lib.Ieee.Fits.{and_l, and_r}
@@ -9,6 +11,18 @@ use Rattle.quantities.specs.declared.time.Time.{Time}
 use Rattle.link.specs.declared.packet.Transit.{Transit}
 use Rattle.link.specs.declared.link.Line.{Line}
 use Rattle.link.specs.Link.{is_due, is_free}
+
+-- ---- a limit, compared without a sum that could wrap
+
+pub above_limit : (waiting bits most : ℕ) → most < bits → leb (waiting + bits) most ≡ false
+above_limit waiting bits most h = lt-leb (waiting + bits) most (omega arith)
+
+pub below-limit : (waiting bits most : ℕ) → bits ≤ most → leb (waiting + bits) most ≡ leb waiting (most - bits)
+below-limit waiting bits most h = cases (leb waiting (most - bits)) (leb-true waiting (most - bits)) (leb-false waiting (most - bits))
+  where
+    cases : (b : Bool) → (b ≡ true → waiting ≤ most - bits) → (b ≡ false → most - bits < waiting) → leb (waiting + bits) most ≡ b
+    cases true f g = let fits = f refl in le-leb (waiting + bits) most (omega arith)
+    cases false f g = let above = g refl in lt-leb (waiting + bits) most (omega arith)
 
 -- ---- a packet that leaves or starts is there
 

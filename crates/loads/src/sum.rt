@@ -37,7 +37,7 @@ impl Sum {
 
     // The packet bits of all 16 places.
     fn sized(self, bits: [u64; 16]) -> Self {
-        bits.into_iter().fold(self, Sum::with)
+        bits.iter().fold(self, |sum, n| sum.with(*n))
     }
 
     fn distributed(self, distribution: Distribution) -> Self {

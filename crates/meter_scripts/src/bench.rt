@@ -1,5 +1,5 @@
 // What the commands work on.
-ghost use Rattle.std.specs.Prelude.{◌≡◌, take, IfSome};
+ghost use Rattle.std.specs.Prelude.{◌≡◌, ◌<◌, take, MatchOption};
 ghost use Rattle.flows.specs.Average.{average_of, told_mean};
 
 use crate::answer::{FlowAnswer, MeterAnswer};
@@ -105,7 +105,7 @@ impl Bench {
 
     // The mean of the list, which is lent, where it has at most 64 flows.
     fn average_first(&self) -> Option<Result<FlowProperties, NoMean>>
-        ensures { IfSome result (λ mean. told_mean mean ≡ average_of (take self.now.count self.now.list)) }
+        ensures { MatchOption result (64 < self.now.count) (λ mean. told_mean mean ≡ average_of (take self.now.count self.now.list)) }
     {
         Some(average(self.list.get(..self.count)?))
     }

@@ -6,15 +6,16 @@ ghost use Rattle.notation.specs.Reading.{Reads, ReadsDigits, ReadsWord, ReadsKey
 
 // The value of a lower-case hexadecimal digit.
 //
-// The hint here and on `digits` is for speed: without both, a well-formed description takes a sixth longer to read.
+// The hints here and on `digits`, `hex16` and `decimal` are for speed: there is one loop for each base, which is a literal
+// in it.
 // The crate `script` has one of its own: the reader's crates depend on no other, and this one is private.
 #[inline(always)]
 fn digit(b: u8) -> Option<u64>
     ensures { DigitIs b result }
 {
     match b {
-        b'0'..=b'9' => Some((b - b'0') as u64),
-        b'a'..=b'f' => Some((b - b'a' + 10) as u64),
+        b'0'..=b'9' => Some(b as u64 - b'0' as u64),
+        b'a'..=b'f' => Some(b as u64 - b'a' as u64 + 10),
         _ => None,
     }
 }
@@ -30,15 +31,14 @@ fn digits(text: &[u8], at: usize, base: u64, most: u64) -> Option<(u64, usize)>
 {
     let mut value: u64 = 0;
     for next in at..text.len() {
-        match digit(text[next]) {
-            Some(d) if d < base => {
-                value = value.checked_mul(base)?.checked_add(d)?;
-                if most < value {
-                    return None;
-                }
-            }
-            _ => return Some((value, next)),
+        let d = digit(text[next]).unwrap_or(base);
+        if base <= d {
+            return Some((value, next));
         }
+        if most < d || (most - d) / base < value {
+            return None;
+        }
+        value = value * base + d;
     }
     Some((value, at.max(text.len())))
 }
@@ -82,6 +82,7 @@ fn byte(text: &[u8], at: usize, b: u8) -> Option<usize>
 //
 // A helper for the crate `description`, and no entry point: the caller gives an end that is no digit. It is a byte: an
 // enum of the three ends would ask more of a caller.
+#[inline(never)]
 pub fn hex16(text: &[u8], at: usize, end: u8) -> Option<(u64, usize)>
     requires { NoDigit 16 (end ∷ []) }
     ensures { Reads (hex_form end) text.now at result }
@@ -104,6 +105,7 @@ fn led(first: u8, count: usize) -> bool
 //
 // A helper for the crate `description`, and no entry point: the caller gives an end that is no digit. It is a byte: an
 // enum of the three ends would ask more of a caller.
+#[inline(never)]
 pub fn decimal(text: &[u8], at: usize, most: u64, end: u8) -> Option<(u64, usize)>
     requires { NoDigit 16 (end ∷ []) }
     ensures { Reads (decimal_form most end) text.now at result }

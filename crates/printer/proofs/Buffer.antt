@@ -8,7 +8,7 @@ use lib.ListN.{length, take, drop, get_or, set, length-append, length-drop}
 use lib.Seq.{paste, paste-zero, take-length, take-suc, set_split, set_at, take_at, drop-drop, length-take-le, drop-append-add}
 use borrow.Author.Tests.{le-leb, lt-leb}
 use Rattle.notation.specs.Notation.{digit_byte, digits_of, decimal_of}
-use Rattle.printer.specs.Printing.{written, PutIs}
+use Rattle.printer.specs.Printing.{written, Wrote, PutIs}
 use Rattle.printer.specs.Pens.{HasRoom, PenWrote}
 use Rattle.printer.specs.declared.Pen.{Pen}
 use Rattle.std.specs.Prelude.{Some, None}
@@ -61,6 +61,17 @@ written_then d at s t h =
     ∙ ap (λ (k : ℕ). front ++ t ++ drop k d) e
     ∙ ap (λ (x : List ℕ). x ++ drop (at + length (s ++ t)) d) (append_assoc (take at d) s t)
 
+pub wrote_then : {m k : ℕ} {s t d mid after : List ℕ} {at next last : ℕ} → Wrote m s d at next mid → Wrote k t mid next last after → at + m ≤ length d
+    → Wrote (m + k) (s ++ t) d at last after
+wrote_then {s = s} {t = t} {d = d} {at = at} {next = next} f g h = record {
+  small = omega (arith, length-append s t, f.small, g.small);
+  place = omega (arith, length-append s t, f.place, g.place);
+  bytes = g.bytes
+      ∙ ap (λ (x : List ℕ). written x next t) f.bytes
+      ∙ ap (λ (k : ℕ). written (written d at s) k t) f.place
+      ∙ written_then d at s t (omega (arith, f.small));
+}
+
 -- the same bytes, by another name or under a larger bound
 pub wrote_as : {m k : ℕ} {s t : List ℕ} {p q : Pen} → s ≡ t → m ≤ k → PenWrote m s p q → PenWrote k t p q
 wrote_as {p = p} e h f = record {
@@ -81,26 +92,15 @@ pub data Row : ℕ → List ℕ → Pen → Pen → Type 0 where
   ◌▸◌ : {m k : ℕ} {s t : List ℕ} {p q r : Pen} → PenWrote m s p q → PenWrote k t q r → Row (m + k) (s ++ t) p r
   ◌▸▸◌ : {m k : ℕ} {s t : List ℕ} {p q r : Pen} → Row m s p q → Row k t q r → Row (m + k) (s ++ t) p r
 
-wrote_then : {m k : ℕ} {s t : List ℕ} {p q r : Pen} → PenWrote m s p q → PenWrote k t q r → HasRoom m p → PenWrote (m + k) (s ++ t) p r
-wrote_then {s = s} {t = t} {p = p} {q = q} f g h = record {
-  wrote = record {
-    small = omega (arith, length-append s t, f.wrote.small, g.wrote.small);
-    place = omega (arith, length-append s t, f.wrote.place, g.wrote.place);
-    bytes = g.wrote.bytes
-        ∙ ap (λ (x : List ℕ). written x q.at t) f.wrote.bytes
-        ∙ ap (λ (k : ℕ). written (written p.out.now p.at s) k t) f.wrote.place
-        ∙ written_then p.out.now p.at s t (omega (arith, f.wrote.small));
-  };
-  long = g.long ∙ f.long;
-  same = g.same ∙ f.same;
-}
+pen_then : {m k : ℕ} {s t : List ℕ} {p q r : Pen} → PenWrote m s p q → PenWrote k t q r → HasRoom m p → PenWrote (m + k) (s ++ t) p r
+pen_then f g h = record { wrote = wrote_then f.wrote g.wrote (omega arith); long = g.long ∙ f.long; same = g.same ∙ f.same }
 
 row : {m : ℕ} {s : List ℕ} {p q : Pen} → Row m s p q → HasRoom m p → PenWrote m s p q
 row (one f) h = f
-row (f ▸ g) h = wrote_then f g (omega arith)
+row (f ▸ g) h = pen_then f g (omega arith)
 row (a ▸▸ b) h =
     let f = row a (omega arith) in
-    wrote_then f (row b (omega (arith, f.wrote.place, f.wrote.small, f.long))) (omega arith)
+    pen_then f (row b (omega (arith, f.wrote.place, f.wrote.small, f.long))) (omega arith)
 
 pub wrote_row : {m k : ℕ} {s t : List ℕ} {p q : Pen} → Row m s p q → s ≡ t → m ≤ k → HasRoom m p → PenWrote k t p q
 wrote_row r e l h = wrote_as e l (row r h)
@@ -156,3 +156,16 @@ pub line_put : {most : ℕ} {s line after : List ℕ} {p q : Pen} → HasRoom 12
 line_put {p = p} h r m e final =
     let f = wrote_row r e m (omega arith) in
     record { answer = rw (le-leb _ _ h) (ap Some f.wrote.place); bytes = rw (le-leb _ _ h) (final ∙ f.wrote.bytes); short = λ room. f.wrote.small }
+
+-- the same of bytes put into a list, without pens; a line of five parts and its end
+pub put_done : {line d after : List ℕ} {at most next : ℕ} → at + 128 ≤ length d → most ≤ 128 → Wrote most line d at next after
+    → PutIs line d at (Some next) after
+put_done h m w = record { answer = rw (le-leb _ _ h) (ap Some w.place); bytes = rw (le-leb _ _ h) w.bytes; short = λ room. omega (arith, w.small) }
+
+pub put_five : {m₁ m₂ m₃ m₄ m₅ k : ℕ} {s₁ s₂ s₃ s₄ s₅ t d d₁ d₂ d₃ d₄ d₅ after : List ℕ} {at a b c e f last : ℕ} → at + 128 ≤ length d
+    → m₁ + m₂ + m₃ + m₄ + m₅ + k ≤ 128
+    → Wrote m₁ s₁ d at a d₁ → Wrote m₂ s₂ d₁ a b d₂ → Wrote m₃ s₃ d₂ b c d₃ → Wrote m₄ s₄ d₃ c e d₄ → Wrote m₅ s₅ d₄ e f d₅ → Wrote k t d₅ f last after
+    → PutIs (s₁ ++ s₂ ++ s₃ ++ s₄ ++ s₅ ++ t) d at (Some last) after
+put_five h l w₁ w₂ w₃ w₄ w₅ w =
+    put_done h l
+    (wrote_then (wrote_then (wrote_then (wrote_then (wrote_then w₁ w₂ (omega arith)) w₃ (omega arith)) w₄ (omega arith)) w₅ (omega arith)) w (omega arith))

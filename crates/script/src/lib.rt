@@ -80,7 +80,7 @@ impl Line<'_> {
 }
 
 // The byte at a place, and 0 past the end.
-fn byte_at(text: &[u8], at: usize) -> u8
+pub fn byte_at(text: &[u8], at: usize) -> u8
     ensures { result ≡ byte_at text.now at }
 {
     text.get(at).copied().unwrap_or(0)

@@ -1,13 +1,33 @@
--- The end of the pick over the queue: where no place that is left holds a time. Assumes nothing.
-use mathlib.Core.Path.{◌≡◌, refl, ◌∙◌}
+-- One turn of the pick over the queue, and its end: where no place that is left holds a time. Assumes nothing.
+use Rattle.std.proofs.Common.{Option}
+use mathlib.Core.Path.{◌≡◌, refl, sym, ap, ◌∙◌}
+use mathlib.Core.Bool.{true, false}
 use mathlib.Core.List.{List, [], ◌∷◌}
 use Prim.Native.Nat.{ℕ, suc, ◌+◌, ◌≤◌, ◌<◌}
+use native.Mathlib.Numerals.{add-one}
 use native.Mathlib.Omega.{arith}
 use lib.ListN.{length, get_or, drop, set, get_or-eq_default}
-use lib.Seq.{get_or-set_other, get_or-drop}
+use lib.Seq.{drop-cons, get_or-set_other, get_or-drop}
+use Rattle.quantities.specs.declared.time.Time.{Time}
 use Rattle.toggler.specs.declared.tick_queue.Queued.{Queued}
 use Rattle.toggler.specs.declared.tick_queue.Picked.{Picked}
-use Rattle.toggler.specs.Queue.{no_queued, sooner, pick_from}
+use Rattle.toggler.specs.Queue.{no_queued, sooner, better, pick_from}
+
+module _ (queue : List Queued) (time : Option Time) (part i : ℕ) (h : i < length queue) where
+  turn : pick_from (drop (i + 1) queue) (i + 1) (better (record { time = time; part = part }) (get_or queue i no_queued).time i)
+      ≡ pick_from (drop i queue) i (record { time = time; part = part })
+  turn =
+      ap (λ (k : ℕ). pick_from (drop k queue) (i + 1) (better (record { time = time; part = part }) (get_or queue i no_queued).time i)) (add-one i)
+      ∙ sym (ap (λ (l : List Queued). pick_from l i (record { time = time; part = part })) (drop-cons queue i no_queued h))
+
+  -- the part i is better, or the best so far stays
+  pub takes : sooner (get_or queue i no_queued).time time ≡ true
+      → pick_from (drop (i + 1) queue) (i + 1) (record { time = (get_or queue i no_queued).time; part = i }) ≡ pick_from (drop i queue) i (record { time = time; part = part })
+  takes t = rw t at turn
+
+  pub keeps : sooner (get_or queue i no_queued).time time ≡ false
+      → pick_from (drop (i + 1) queue) (i + 1) (record { time = time; part = part }) ≡ pick_from (drop i queue) i (record { time = time; part = part })
+  keeps t = rw t at turn
 
 -- ---- places that hold no time
 
